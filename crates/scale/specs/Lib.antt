@@ -1,2 +1,5 @@
+pub mod Accents
 pub mod Gates
+pub mod Inverse
+pub mod Lanes
 pub mod Model

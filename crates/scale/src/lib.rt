@@ -3,7 +3,9 @@ ghost use mathlib.Core.Path.{_≡_};
 ghost use Prim.Native.Nat.{ℕ};
 ghost use Rattle.scale.specs.Model.{ScaleModel, at-code, at-codes};
 
+pub mod accents;
 pub mod gates;
+pub mod lanes;
 
 // A scale has q codes, the bytes 0 to q - 1. An implementation shows by `model` that they make a field;
 // each function answers 0 when a byte given to it is no code.

@@ -5,6 +5,11 @@ ghost use lib.Dec.{T};
 ghost use Rattle.strip.specs.Row.{Row, zeros, First, Put, Added};
 use scale::Scale;
 
+pub mod accents;
+mod bytes;
+pub mod gates;
+pub mod lanes;
+
 // A strip means a row of codes at the places 0 to L - 1, L from 64 to 128, and 0 at every place from L on.
 // A stored pattern that is no code counts as 0 throughout.
 pub trait Strip: Copy + Sized {
