@@ -10,7 +10,7 @@ use lib.Dec.{eqb, ltb, leb}
 use lib.ListN.{length, getD, take, length-append}
 use Rattle.std.proofs.shelf.Tests.{cond-true, cond-false, or-parts, or-from, or-cases, or-left, or-right, ltb-true, ltb-false, leb-true, leb-false, eqb-true, eqb-false, lt-ltb, le-ltb, le-leb, lt-leb, eq-eqb, ne-eqb, not-false, not-from-true}
 use Rattle.patch.specs.Records.{Record, filler, cell, off, on, outlet, unmarked, unclean, read, records, declare, declared, input, nth, cells-of}
-use Rattle.patch.specs.Faults.{position, later, arc-fault, fault, Verdict, passed, refused, check-from, check-patch, Later, Arc, Fine, AllFine, Patch, First}
+use Rattle.patch.specs.Faults.{position, later, arc-fault, fault, Verdict, passed, refused, check-from, check-patch, Bytes, Later, Arc, Fine, AllFine, Patch, First}
 
 -- a fault that did not occur
 fell : (b : Bool) (k y : ℕ) → cond b (suc k) y ≡ 0 → (b ≡ false) × (y ≡ 0)
@@ -84,11 +84,11 @@ declared-more (r ∷ rs) cells = omega (arith, declare-more cells r, declared-mo
 no-refusal : {k j : ℕ} → passed ≡ refused k j → ⊥
 no-refusal e = let z : _≡_ {A = ℕ} 0 1 = cc in omega arith
 
-no-sound : {k j : ℕ} → refused k j ≡ passed → ⊥
+pub no-sound : {k j : ℕ} → refused k j ≡ passed → ⊥
 no-sound e = let z : _≡_ {A = ℕ} 0 1 = cc in omega arith
 
 module _ (order : List ℕ) (L q : ℕ) where
-  sound-fine : (rs : List Record) (k : ℕ) (cells : List ℕ) → length cells < L → check-from order L q k cells rs ≡ passed
+  pub sound-fine : (rs : List Record) (k : ℕ) (cells : List ℕ) → length cells < L → check-from order L q k cells rs ≡ passed
       → AllFine order q cells rs × (length (declared cells rs) < L)
   sound-fine [] k cells h e = (tt, h)
   sound-fine (r ∷ rs) k cells h e = go (eqb (fault order L q cells r) 0) refl e (sound-fine rs (k + 1) (declare cells r))
@@ -162,12 +162,12 @@ module _ (order : List ℕ) (L q : ℕ) where
         before = λ i h. f .before (suc i) (omega arith);
       }) ∙ ap (refused number) (sym there)
 
-  pub checks-sound : (bytes : List ℕ) → 0 < L → (check-patch order L q bytes ≡ passed) ↔ (Patch order q bytes × (cells-of (records bytes) < L))
-  checks-sound bytes l = (go (eqb (length bytes % 4) 0) refl, λ p. cond-true _ _ _ (eq-eqb _ 0 (p .0 .fours)) ∙ fine-sound (records bytes) 0 [] (p .0 .fine) (p .1))
+  pub checks-sound : (bytes : List ℕ) → 0 < L → Bytes bytes → (check-patch order L q bytes ≡ passed) ↔ (Patch order q bytes × (cells-of (records bytes) < L))
+  checks-sound bytes l held = (go (eqb (length bytes % 4) 0) refl, λ p. cond-true _ _ _ (eq-eqb _ 0 (p .0 .fours)) ∙ fine-sound (records bytes) 0 [] (p .0 .fine) (p .1))
     where
       go : (b : Bool) → eqb (length bytes % 4) 0 ≡ b → cond b (check-from order L q 0 [] (records bytes)) (refused 11 0) ≡ passed
           → Patch order q bytes × (cells-of (records bytes) < L)
-      go true t s = let a = sound-fine (records bytes) 0 [] l s in (record { fours = eqb-true _ 0 t; fine = a .0 }, a .1)
+      go true t s = let a = sound-fine (records bytes) 0 [] l s in (record { held = held; fours = eqb-true _ 0 t; fine = a .0 }, a .1)
       go false t s = absurd (no-sound s)
 
   pub checks-length : (bytes : List ℕ) → length bytes % 4 ≢ 0 → check-patch order L q bytes ≡ refused 11 0

@@ -1,4 +1,4 @@
--- A patch that keeps the order and the first four conditions is the encoding of a canonical diagram. Assumes nothing.
+-- A patch that keeps the order and the first four conditions is the encoding of a diagram in echelon form. Assumes nothing.
 use mathlib.Core.Path.{_≡_, refl, sym, ap, ap₂, _∙_}
 use mathlib.Core.Logic.{_⊎_, inl, inr, _≢_, _↔_, dite, dif-pos}
 use mathlib.Core.HLevel.{dec→stable}
@@ -16,7 +16,7 @@ use Rattle.patch.specs.Records.{Record, filler, cell, off, on, outlet, unmarke
 use Rattle.patch.specs.Faults.{position, Order, Later, Arc, Fine, AllFine, Patch}
 use Rattle.patch.specs.Paths.{target, code, on-from, starts, Among}
 use Rattle.patch.specs.Settled.{Plain, rank, source, Precedes, Head, Kept}
-use Rattle.patch.specs.Encoding.{four, written, diagram-records, encode, Canonical}
+use Rattle.patch.specs.Encoding.{four, written, diagram-records, encode, Echelon-numbers}
 use Rattle.patch.proofs.Facts.{Facts, facts-of, inside}
 use Rattle.patch.proofs.Each.{Each, each-map, each-among, each-nth, Pairs, pairs-nth, nth-among}
 use Rattle.patch.proofs.Encoded.{Real, Shape, shape-of, there, there-out, kept-rs, all-cells, inputs, inputs-length, inputs-at}
@@ -65,7 +65,7 @@ fine-real order q cells (outlet t c) f = tt
 fine-real order q cells unmarked f = f
 fine-real order q cells unclean f = f
 
-all-real : (order : List ℕ) (q : ℕ) (rs : List Record) (cells : List ℕ) → AllFine order q cells rs → Each Real rs
+pub all-real : (order : List ℕ) (q : ℕ) (rs : List Record) (cells : List ℕ) → AllFine order q cells rs → Each Real rs
 all-real order q [] cells a = tt
 all-real order q (r ∷ rs) cells a = (fine-real order q cells r (a .0), all-real order q rs (declare cells r) (a .1))
 
@@ -440,8 +440,8 @@ module _ (order : List ℕ) (q : ℕ) (some : 0 < q) (rs : List Record) (F : Fac
   small-row zero f = some
   small-row (suc a) f = f (omega arith)
 
-  canonical : Canonical order q (cells-of rs) (reads rs) row out head
-  canonical = record {
+  echelon : Echelon-numbers order q (cells-of rs) (reads rs) row out head
+  echelon = record {
     input = F .input-is;
     code = λ j t z h l. small-row (row j t) (λ n. fine-of (on j t (row j t)) (row-arc j t n) .code);
     out-code = λ t h. small-row (out t) (λ n. fine-of (outlet t (out t)) (out-arc t n) .1);
@@ -468,10 +468,10 @@ module _ (order : List ℕ) (q : ℕ) (some : 0 < q) (rs : List Record) (F : Fac
 
   records-are : rs ≡ diagram-records (cells-of rs) (reads rs) row out
   records-are =
-      same-list order rs (diagram-records (cells-of rs) (reads rs) row out) K (kept-rs order q (cells-of rs) (reads rs) row out head canonical) (
+      same-list order rs (diagram-records (cells-of rs) (reads rs) row out) K (kept-rs order q (cells-of rs) (reads rs) row out head echelon) (
       same-cells (cells-of rs) (declared [] rs) (λ j. reads rs (suc j)) refl (λ j l. let e : suc j - 1 ≡ j = omega arith in rw e refl) _ (
       inputs-length (reads rs) (cells-of rs)) (inputs-at (reads rs) (cells-of rs))
-      ∙ sym (all-cells order q (cells-of rs) (reads rs) row out head canonical)) there-of back-of
+      ∙ sym (all-cells order q (cells-of rs) (reads rs) row out head echelon)) there-of back-of
     where
       there-of : (r : Record) → 0 < rank r → Among r rs → Among r (diagram-records (cells-of rs) (reads rs) row out)
       there-of r z m = go (plain-rank r (K .plain r m))
@@ -485,7 +485,7 @@ module _ (order : List ℕ) (q : ℕ) (some : 0 < q) (rs : List Record) (F : Fac
               let w = arc-row (source r) (target r) (code r) n in
               let p : code r ≢ 0 = K .plain (on (source r) (target r) (code r)) n in
               Memᴰ·cast (is ∙ ap (on (source r) (target r)) (sym w)) (
-              there order q (cells-of rs) (reads rs) row out head canonical (source r) (target r) (a .from-cell) (a .from-known) (down-of _ _ _ n) (λ y. p (sym w ∙ y)))
+              there order q (cells-of rs) (reads rs) row out head echelon (source r) (target r) (a .from-cell) (a .from-known) (down-of _ _ _ n) (λ y. p (sym w ∙ y)))
           go (inr (inr e)) =
               let is = plain-outlet r (K .plain r m) e in
               let n : Among (outlet (target r) (code r)) rs = Memᴰ·cast (sym is) m in
@@ -493,9 +493,9 @@ module _ (order : List ℕ) (q : ℕ) (some : 0 < q) (rs : List Record) (F : Fac
               let w = arc-out (target r) (code r) n in
               let p : code r ≢ 0 = K .plain (outlet (target r) (code r)) n in
               Memᴰ·cast (is ∙ ap (outlet (target r)) (sym w)) (
-              there-out order q (cells-of rs) (reads rs) row out head canonical (target r) (a .0) (λ y. p (sym w ∙ y)))
+              there-out order q (cells-of rs) (reads rs) row out head echelon (target r) (a .0) (λ y. p (sym w ∙ y)))
 
-      back-by : (r : Record) → 0 < rank r → Shape order q (cells-of rs) (reads rs) row out head canonical r → Among r rs
+      back-by : (r : Record) → 0 < rank r → Shape order q (cells-of rs) (reads rs) row out head echelon r → Among r rs
       back-by filler z s = absurd s
       back-by (cell i) z s = absurd (omega arith)
       back-by (off f t c) z s = absurd s
@@ -505,10 +505,10 @@ module _ (order : List ℕ) (q : ℕ) (some : 0 < q) (rs : List Record) (F : Fac
       back-by unclean z s = absurd s
 
       back-of : (r : Record) → 0 < rank r → Among r (diagram-records (cells-of rs) (reads rs) row out) → Among r rs
-      back-of r z m = back-by r z (shape-of order q (cells-of rs) (reads rs) row out head canonical r m)
+      back-of r z m = back-by r z (shape-of order q (cells-of rs) (reads rs) row out head echelon r m)
 
 pub decoded : (order : List ℕ) (q : ℕ) → 0 < q → Order order → (bytes : List ℕ) → Patch order q bytes → Kept order (records bytes)
-    → (row : ℕ → ℕ → ℕ) × (out : ℕ → ℕ) × (head : ℕ → ℕ) × Canonical order q (cells-of (records bytes)) (reads (records bytes)) row out head
+    → (row : ℕ → ℕ → ℕ) × (out : ℕ → ℕ) × (head : ℕ → ℕ) × Echelon-numbers order q (cells-of (records bytes)) (reads (records bytes)) row out head
     × (bytes ≡ encode (cells-of (records bytes)) (reads (records bytes)) row out)
 decoded order q some o bytes p K =
     let rs : List Record = records bytes in
@@ -516,6 +516,6 @@ decoded order q some o bytes p K =
       row order q some rs F K,
       out order q some rs F K,
       head order q some rs F K,
-      canonical order q some rs F K,
+      echelon order q some rs F K,
       sym (rebuilt bytes (p .fours) (all-real order q rs [] (p .fine))) ∙ ap written (records-are order q some rs F K),
     )

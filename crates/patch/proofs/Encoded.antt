@@ -1,4 +1,4 @@
--- The bytes of a canonical diagram: a patch that keeps the order and the first four conditions. Assumes nothing.
+-- The encoding of a diagram in echelon form is a patch that keeps the order and the first four conditions. Assumes nothing.
 use mathlib.Core.Path.{_≡_, refl, sym, ap, ap₂, _∙_}
 use mathlib.Core.Logic.{_⊎_, inl, inr, _≢_}
 use mathlib.Core.Bool.{Bool, true, false, cond}
@@ -13,8 +13,9 @@ use Rattle.patch.specs.Records.{Record, filler, cell, off, on, outlet, unmarke
 use Rattle.patch.specs.Faults.{position, Order, Later, Arc, Fine, AllFine, Patch}
 use Rattle.patch.specs.Paths.{target, Among}
 use Rattle.patch.specs.Settled.{Plain, rank, source, Precedes, Head, Kept}
-use Rattle.patch.specs.Encoding.{four, written, unless-zero, cell-records, on-records, outlet-records, diagram-records, encode, Canonical}
+use Rattle.patch.specs.Encoding.{four, written, unless-zero, cell-records, on-records, outlet-records, diagram-records, encode, Echelon-numbers}
 use Rattle.patch.proofs.Facts.{Facts, facts-of, inside}
+use Rattle.patch.proofs.Held.{Small, written-held}
 use Rattle.patch.proofs.Gather.{gather-mem}
 use Rattle.patch.proofs.Each.{Each, each-append, each-map, each-gather, each-unless, each-among, each-nth, among-unless, Pairs, pairs-append, pairs-gather, pairs-unless, pairs-nth, nth-among}
 
@@ -106,7 +107,7 @@ module _ (inp : ℕ → ℕ) where
 Before : Record → Record → Type 0
 Before r s = (rank r < rank s) ⊎ ((rank r ≡ rank s) × ((rank r ≡ 0) ⊎ ((source r < source s) ⊎ ((source r ≡ source s) × (target r < target s)))))
 
-module _ (order : List ℕ) (q k : ℕ) (inp : ℕ → ℕ) (row : ℕ → ℕ → ℕ) (out head : ℕ → ℕ) (H : Canonical order q k inp row out head) where
+module _ (order : List ℕ) (q k : ℕ) (inp : ℕ → ℕ) (row : ℕ → ℕ → ℕ) (out head : ℕ → ℕ) (H : Echelon-numbers order q k inp row out head) where
   abbrev rs : List Record
   rs = diagram-records k inp row out
 
@@ -218,8 +219,20 @@ module _ (order : List ℕ) (q k : ℕ) (inp : ℕ → ℕ) (row : ℕ → ℕ �
   rs-fine =
       fine-append order q (cell-records k inp row out) _ [] (cells-fine k (omega arith)) (rw (declared-made inp k) (fine-still order q (inputs inp k) _ arcs))
 
-  pub is-patch : Patch order q (encode k inp row out)
-  is-patch = record { fours = in-fours rs reals; fine = rw back rs-fine }
+  smalls : Order order → k < 256 → q ≤ 256 → Each Small rs
+  unfolding diagram-records
+  smalls o few codes =
+      each-append Small (cell-records k inp row out) _ (
+      each-gather Small k _ (λ j h. (omega (arith, o .few, H .input (suc j) (omega arith) (omega arith)), tt))) (
+      each-append Small (on-records k inp row out) _ (
+      each-gather Small k _ (
+      λ j h.
+      each-gather Small (suc j) _ (
+      λ t l. each-unless Small (row (suc j) t) _ (λ n. (omega arith, omega arith, omega (arith, H .code (suc j) t (omega arith) (omega arith) l)))))) (
+      each-gather Small (suc k) _ (λ t l. each-unless Small (out t) _ (λ n. (omega arith, omega (arith, H .out-code t (omega arith)))))))
+
+  pub is-patch : Order order → k < 256 → q ≤ 256 → Patch order q (encode k inp row out)
+  is-patch o few codes = record { held = written-held rs (smalls o few codes); fours = in-fours rs reals; fine = rw back rs-fine }
 
   pub count-is : cells-of rs ≡ k
   count-is = ap length all-cells ∙ inputs-length inp k

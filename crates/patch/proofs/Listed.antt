@@ -127,7 +127,7 @@ module _ (rs : List Record) (x : ℕ → Bool) where
         (inside rs k (outlet t c) e (λ z. let y : _≡_ {A = ℕ} 0 1 = cc in omega arith)) (
         rw e (Memᴰ·map (_∷_ k) (walked t r w (length order) (enough t))))
 
--- the theorem
+-- the list of paths holds exactly the paths, each once
 pub listed : (order : List ℕ) (q : ℕ) (bytes : List ℕ) → Order order → Patch order q bytes → (x : ℕ → Bool)
     → ((p : List ℕ) → IsPath (records bytes) x p ↔ Among p (paths (records bytes) (length order) x)) × Distinct (paths (records bytes) (length order) x)
 listed order q bytes o patch x = (

@@ -1,4 +1,4 @@
--- Lemma 1 in numbers: the rule of a patch by the values of its cells, and by its diagram. Assumes nothing.
+-- The rule of a patch, in numbers: by the values of its cells, and by its diagram. Assumes nothing.
 use mathlib.Core.Path.{_≡_, refl, sym, ap, ap₂, _∙_}
 use mathlib.Core.Logic.{_⊎_, inl, inr, _≢_}
 use mathlib.Core.HLevel.{dec→stable}
@@ -11,7 +11,7 @@ use lib.Bits.{bitAnd, bitXor}
 use lib.Dec.{eqb}
 use lib.ListN.{length}
 use Rattle.std.proofs.shelf.Tests.{and-parts, cond-both, eqb-true}
-use Rattle.linear.specs.Codes.{CodeField, Code, code-eq, codes, coded}
+use Rattle.linear.specs.Codes.{CodeField, Code, code-eq, codes, as-code}
 use Rattle.linear.specs.Field.{Field}
 use Rattle.linear.specs.Sums.{fold, sum}
 use Rattle.linear.proofs.Codes.{coded-number, fold-cong, sum-number}
@@ -34,7 +34,7 @@ code-small order q cells unclean z a = z
 
 module _ {q : ℕ} {plus times : ℕ → ℕ → ℕ} {neg inv : ℕ → ℕ} (C : CodeField q plus times neg inv) where
   abbrev pub lift : ℕ → Code q
-  lift = coded (omega (arith, C .two))
+  lift = as-code C
 
   pub lift-number : (n : ℕ) → n < q → lift n .0 ≡ n
   lift-number = coded-number (omega (arith, C .two))
@@ -96,7 +96,7 @@ module _ {q : ℕ} {plus times : ℕ → ℕ → ℕ} {neg inv : ℕ → ℕ} (C
     fold-none zero f e = refl
     fold-none (suc n) f e = ap₂ plus (fold-none n f (λ i h. e i (omega arith))) (e n (omega arith)) ∙ C .plus-zero 0 (omega (arith, C .two))
 
-    sent-none : (pick : Record → Bool) (u : ℕ) → ((k : ℕ) → pick (nth rs k) ≡ true → u ≡ target (nth rs k) → ⊥) → sent plus rs pick u ≡ 0
+    pub sent-none : (pick : Record → Bool) (u : ℕ) → ((k : ℕ) → pick (nth rs k) ≡ true → u ≡ target (nth rs k) → ⊥) → sent plus rs pick u ≡ 0
     sent-none pick u never =
         fold-none (length rs) _ (
         λ k h.
@@ -144,7 +144,7 @@ module _ {q : ℕ} {plus times : ℕ → ℕ → ℕ} {neg inv : ℕ → ℕ} (C
       unfolding codes
       dif-lift f u = lift-is _ _ (sym (ap₂ (λ a b. plus a (neg b)) (sent-number (on-from f) u) (sent-number (off-from f) u)))
 
-      -- LEMMA 1 by the patch's diagram, over the field of codes
+      -- the rule by the patch's diagram, over the field of codes
       pub diagram-in-field : (V : ℕ → Code q) → V 0 ≡ codes C .one
           → ((t : ℕ) → 0 < t → t ≤ cells-of rs
           → V t ≡ codes C .plus (sum (codes C) (suc (cells-of rs)) (λ u. codes C .times (lift (off-to plus rs t u)) (V u))) (
@@ -176,7 +176,7 @@ module _ {q : ℕ} {plus times : ℕ → ℕ → ℕ} {neg inv : ℕ → ℕ} (C
         unfolding codes
         one-number e = lift-is (V 0) _ e
 
-        -- LEMMA 1, by arcs
+        -- the rule by the values of the cells
         pub rule-by-values : Values plus times rs x V → path-sum plus times rs (length order) x ≡ flow plus times rs starts V
         rule-by-values v =
             rule-in-field (λ u. lift (V u)) (one-number (v .steady)) (λ f z h. lift-is (V f) _ (v .cell f z h ∙ sym (flow-lift (opens rs x f)))) ∙ flow-lift starts
@@ -193,7 +193,7 @@ module _ {q : ℕ} {plus times : ℕ → ℕ → ℕ} {neg inv : ℕ → ℕ} (C
             λ u. ap₂ (λ a b. plus a (neg b)) (sent-number (on-from f) u) (sent-number (off-from f) u)))))
             ∙ ap (λ (c : Code q). c .0) (open-flow (codes C) lift rs (cells-of rs) known x f (λ u. lift (V u)))
 
-        -- LEMMA 1, by the patch's diagram
+        -- the rule by the patch's diagram
         pub rule-by-diagram : Solves plus times (cells-of rs) (reads rs) (off-to plus rs) (dif-to plus rs neg) x V
             → path-sum plus times rs (length order) x ≡ along plus times (cells-of rs) (out-to plus rs) V
         rule-by-diagram v =
@@ -260,7 +260,7 @@ module _ {q : ℕ} {plus times : ℕ → ℕ → ℕ} {neg inv : ℕ → ℕ} (C
         },
       )
 
--- COROLLARY at gates
+-- at gates: the parity of the paths all of whose codes are 1
 module _ (rs : List Record) (bits : (k : ℕ) → code (nth rs k) < 2) where
   and-bit : (c : ℕ) (b : Bool) → c < 2 → bitAnd c (cond b 1 0) ≡ cond (eqb c 1 && b) 1 0
   and-bit zero b h = refl

@@ -1,4 +1,4 @@
--- The rule of the bytes of a canonical diagram is the diagram's rule. Assumes nothing.
+-- The rule of the encoding of a diagram in echelon form is the diagram's rule. Assumes nothing.
 use mathlib.Core.Path.{_≡_, refl, sym, ap, ap₂, _∙_}
 use mathlib.Core.Logic.{_⊎_, inl, inr, _≢_}
 use mathlib.Core.Bool.{Bool, true, false, cond}
@@ -17,7 +17,7 @@ use Rattle.linear.proofs.Sums.{sum-cong, sum-zero, sum-single}
 use Rattle.patch.specs.Records.{Record, filler, cell, off, on, outlet, unmarked, unclean, records, nth, reads, cells-of}
 use Rattle.patch.specs.Faults.{Order, Patch}
 use Rattle.patch.specs.Paths.{target, code, off-from, on-from, opens, starts, path-sum, bit, rule}
-use Rattle.patch.specs.Encoding.{written, unless-zero, cell-records, on-records, outlet-records, diagram-records, encode, Canonical, Row-values}
+use Rattle.patch.specs.Encoding.{written, unless-zero, cell-records, on-records, outlet-records, diagram-records, encode, Echelon-numbers, Row-values}
 use Rattle.patch.proofs.Each.{Each, each-gather, each-unless}
 use Rattle.patch.proofs.Encoded.{back, rs-fine, count-is, reads-is, is-patch}
 use Rattle.patch.proofs.Facts.{Facts, facts-of}
@@ -126,7 +126,7 @@ module _ {K : Type 0} (F : Field K) where
             ∙ sum-cong F (suc f) _ _ (λ t l. cond-true _ _ _ (eq-eqb (suc f) (suc f) refl))
 
 module _ {q : ℕ} {plus times : ℕ → ℕ → ℕ} {neg inv : ℕ → ℕ} (C : CodeField q plus times neg inv) (order : List ℕ) (O : Order order)
-    (k : ℕ) (inp : ℕ → ℕ) (row : ℕ → ℕ → ℕ) (out head : ℕ → ℕ) (H : Canonical order q k inp row out head) where
+    (k : ℕ) (inp : ℕ → ℕ) (row : ℕ → ℕ → ℕ) (out head : ℕ → ℕ) (H : Echelon-numbers order q k inp row out head) where
   facts-rs : Facts order q (diagram-records k inp row out)
   facts-rs = facts-of order q (diagram-records k inp row out) O (rs-fine order q k inp row out head H)
 

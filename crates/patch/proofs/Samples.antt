@@ -8,7 +8,7 @@ use lib.Bits.{bitAnd, bitXor}
 use Rattle.linear.specs.Codes.{CodeField}
 use Rattle.linear.specs.Sums.{fold}
 use Rattle.linear.proofs.Tested.{Passes, tested, inverse}
-use Rattle.patch.specs.Encoding.{Canonical, diagram-records}
+use Rattle.patch.specs.Encoding.{Echelon-numbers, diagram-records}
 use Rattle.patch.specs.Faults.{position, Order}
 use Rattle.patch.specs.Paths.{walks, paths}
 use Rattle.patch.specs.Samples.{Samples, plain-order, inp, row, out, head}
@@ -32,8 +32,8 @@ plain = record {
   back = below-two _ refl refl;
 }
 
-canonical : Canonical plain-order 2 2 inp row out head
-canonical = record {
+echelon : Echelon-numbers plain-order 2 2 inp row out head
+echelon = record {
   input = one-two _ (omega arith) (omega arith);
   code = λ j t z h l.
       one-two (λ i. (u : ℕ) → u < i → row i u < 2) (λ u k. below-two (λ v. row 1 v < 2) (omega arith) (omega arith) u (omega arith)) (below-two (λ v. row 2 v < 2) (omega arith) (omega arith)) j z h t l;
@@ -76,4 +76,4 @@ gates = tested 2 bitXor bitAnd (λ a. a) (λ a. a) passes
 
 pub samples : Samples
 unfolding fold walks paths diagram-records
-samples = (refl, refl, refl, refl, refl, refl, refl, refl, refl, refl, refl, refl, refl, refl, refl, refl, refl, refl, refl, gates, plain, canonical, refl)
+samples = (refl, refl, refl, refl, refl, refl, refl, refl, refl, refl, refl, refl, refl, refl, refl, refl, refl, refl, refl, gates, plain, echelon, refl)

@@ -1,4 +1,4 @@
--- Lemma 1 over a field: the sum over paths is the sum over the outlet arcs of code × value. Assumes nothing.
+-- The sum over the paths of a patch is the sum over its outlet arcs of code × value of the target, over a field. Assumes nothing.
 use mathlib.Core.Path.{_≡_, refl, sym, ap, ap₂, _∙_}
 use mathlib.Core.Logic.{_⊎_, inl, inr, _≢_}
 use mathlib.Core.Bool.{Bool, true, false, cond, _&&_}

@@ -1,4 +1,4 @@
--- The bytes of a diagram of k cells without off arcs: row j has the codes of cell j's on arcs, by target, and out those of the outlet arcs. Assumes nothing.
+-- The encoding of a diagram of k cells without off arcs: inp has the inputs that the cells read, row j the codes of cell j's on arcs, by target, and out those of the outlet arcs. Assumes nothing.
 use mathlib.Core.Path.{_≡_}
 use mathlib.Core.Logic.{_≢_}
 use mathlib.Core.Bool.{Bool, cond}
@@ -10,6 +10,7 @@ use Rattle.linear.specs.Sums.{fold}
 use Rattle.patch.specs.Records.{Record, filler, cell, off, on, outlet, unmarked, unclean}
 use Rattle.patch.specs.Faults.{position}
 
+-- a record as bytes, and many
 abbrev pub four : Record → List ℕ
 four filler = 0 ∷ 0 ∷ 0 ∷ 0 ∷ []
 four (cell i) = 1 ∷ i ∷ 0 ∷ 0 ∷ []
@@ -27,6 +28,7 @@ written (r ∷ rs) = four r ++ written rs
 abbrev pub unless-zero : ℕ → Record → List Record
 unless-zero c r = cond (eqb c 0) [] (r ∷ [])
 
+-- cell records, then on arcs by cell and target, then outlet arcs by target
 module _ (k : ℕ) (inp : ℕ → ℕ) (row : ℕ → ℕ → ℕ) (out : ℕ → ℕ) where
   abbrev pub cell-records : List Record
   cell-records = fold [] _++_ k (λ j. cell (inp (suc j)) ∷ [])
@@ -43,8 +45,9 @@ module _ (k : ℕ) (inp : ℕ → ℕ) (row : ℕ → ℕ → ℕ) (out : ℕ �
   abbrev pub encode : List ℕ
   encode = written diagram-records
 
--- A canonical diagram but for smallness: cells 1 to k read inp, their rows are reduced among the cells of one input, with heads head.
-pub record Canonical (order : List ℕ) (q k : ℕ) (inp : ℕ → ℕ) (row : ℕ → ℕ → ℕ) (out head : ℕ → ℕ) : Type 0 where
+-- A diagram in echelon form, in numbers: the cells 1 to k read inp, never a later input than the cell before, and have codes at cell 0 and at cells of later inputs;
+-- the rows of the cells of one input are reduced: head j is the lowest target of cell j and has the code 1, heads rise, and no row has a code at the head of another.
+pub record Echelon-numbers (order : List ℕ) (q k : ℕ) (inp : ℕ → ℕ) (row : ℕ → ℕ → ℕ) (out head : ℕ → ℕ) : Type 0 where
   pub input : (j : ℕ) → 0 < j → j ≤ k → inp j < length order
   pub code : (j t : ℕ) → 0 < j → j ≤ k → t < j → row j t < q
   pub out-code : (t : ℕ) → t ≤ k → out t < q

@@ -54,7 +54,11 @@ check-from order L q k cells (r ∷ rs) =
 abbrev pub check-patch : List ℕ → ℕ → ℕ → List ℕ → Verdict
 check-patch order L q bytes = cond (eqb (length bytes % 4) 0) (check-from order L q 0 [] (records bytes)) (refused 11 0)
 
--- A patch: no fault 11 to 14 and 16 to 18; neither cells nor bytes are limited.
+-- What bytes hold: numbers below 256.
+abbrev pub Bytes : List ℕ → Type 0
+Bytes bytes = (i : ℕ) → i < length bytes → getD bytes i 0 < 256
+
+-- A patch: bytes without a fault 11 to 14 or 16 to 18; neither the cells nor the bytes are limited in number.
 abbrev pub Later : List ℕ → List ℕ → ℕ → ℕ → Type 0
 Later order cells f t = (t ≡ 0) ⊎ (position order (input cells f) < position order (input cells t))
 
@@ -79,6 +83,7 @@ AllFine order q cells [] = Unit
 AllFine order q cells (r ∷ rs) = Fine order q cells r × AllFine order q (declare cells r) rs
 
 pub record Patch (order : List ℕ) (q : ℕ) (bytes : List ℕ) : Type 0 where
+  pub held : Bytes bytes
   pub fours : length bytes % 4 ≡ 0
   pub fine : AllFine order q [] (records bytes)
 

@@ -5,7 +5,7 @@ use Prim.Native.Nat.{ℕ}
 use lib.Bits.{bitAnd, bitXor}
 use lib.ListN.{getD}
 use Rattle.linear.specs.Codes.{CodeField}
-use Rattle.patch.specs.Encoding.{encode, Canonical}
+use Rattle.patch.specs.Encoding.{encode, Echelon-numbers}
 use Rattle.patch.specs.Faults.{Order, check-patch, passed, refused}
 use Rattle.patch.specs.Paths.{rule}
 
@@ -58,5 +58,5 @@ Samples =
     × (check-patch plain-order 128 2 (1 ∷ 1 ∷ 0 ∷ 0 ∷ 1 ∷ 0 ∷ 0 ∷ 0 ∷ 3 ∷ 1 ∷ 2 ∷ 7 ∷ []) ≡ refused 17 2)
     × (check-patch plain-order 128 2 (1 ∷ 1 ∷ 0 ∷ 0 ∷ 3 ∷ 1 ∷ 1 ∷ 1 ∷ []) ≡ refused 17 1)
     × (check-patch plain-order 128 2 (0 ∷ 0 ∷ 0 ∷ 0 ∷ 4 ∷ 0 ∷ 0 ∷ 2 ∷ 5 ∷ 0 ∷ 0 ∷ 0 ∷ []) ≡ refused 18 1)
-    -- the hypotheses of the theorems can be met
-    × CodeField 2 bitXor bitAnd (λ a. a) (λ a. a) × Order plain-order × Canonical plain-order 2 2 inp row out head × (encode 2 inp row out ≡ either-settled)
+    -- what the statements assume can be met
+    × CodeField 2 bitXor bitAnd (λ a. a) (λ a. a) × Order plain-order × Echelon-numbers plain-order 2 2 inp row out head × (encode 2 inp row out ≡ either-settled)

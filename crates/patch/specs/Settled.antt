@@ -1,4 +1,4 @@
--- The settled form of a patch. Assumes nothing.
+-- The settled form of a patch: an order of its records, and five conditions. Assumes nothing.
 use mathlib.Core.Path.{_≡_}
 use mathlib.Core.Logic.{_⊎_, _≢_}
 use mathlib.Core.List.{List}
@@ -50,24 +50,25 @@ pub record Head (rs : List Record) (j h : ℕ) : Type 0 where
   pub arc : (c : ℕ) × Among (on j h c) rs
   pub lowest : (t c : ℕ) → Among (on j t c) rs → h ≤ t
 
--- the order, and the first four of the five conditions
+-- A list of records keeps the order and the first four conditions.
 pub record Kept (order : List ℕ) (rs : List Record) : Type 0 where
   pub ordered : (j k : ℕ) → j < k → k < length rs → Precedes (nth rs j) (nth rs k)
-  -- 1
+  -- first: no filler, no off arc, no arc of code 0, and no two arcs with the same ends
   pub plain : (r : Record) → Among r rs → Plain r
   pub one-arc : (j k f t c d : ℕ) → nth rs j ≡ on f t c → nth rs k ≡ on f t d → j ≡ k
   pub one-outlet : (j k t c d : ℕ) → nth rs j ≡ outlet t c → nth rs k ≡ outlet t d → j ≡ k
-  -- 2
+  -- second: rising cell numbers never go to a later input
   pub never-later : (i j : ℕ) → 0 < i → i < j → j ≤ cells-of rs → position order (reads rs j) ≤ position order (reads rs i)
-  -- 3
+  -- third: each cell has an on arc, and the code at its head, the lowest target, is 1
   pub headed : (j : ℕ) → 0 < j → j ≤ cells-of rs → (h : ℕ) × Head rs j h
   pub head-one : (j h c : ℕ) → Head rs j h → Among (on j h c) rs → c ≡ 1
-  -- 4
+  -- fourth: among the cells of one input heads rise, and no cell has an arc to the head of another
   pub heads-rise : (i j h g : ℕ) → i < j → reads rs i ≡ reads rs j → Head rs i h → Head rs j g → h < g
   pub heads-clear : (i j h c : ℕ) → i ≢ j → reads rs i ≡ reads rs j → Head rs j h → ¬ Among (on i h c) rs
 
+-- A settled patch.
 pub record Settled (q : ℕ) (plus times : ℕ → ℕ → ℕ) (order bytes : List ℕ) : Type 0 where
   pub patch : Patch order q bytes
   pub kept : Kept order (records bytes)
-  -- 5
+  -- fifth: no patch with the same rule has fewer cells
   pub smallest : (others : List ℕ) → Patch order q others → Same-rule plus times order bytes others → cells-of (records bytes) ≤ cells-of (records others)

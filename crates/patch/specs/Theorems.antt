@@ -1,4 +1,4 @@
--- The statements that the crate's contract cites. Assumes nothing.
+-- What is proved of patches, their rules, their encoding and the rule book; the crate's contracts cite it. Assumes nothing.
 use mathlib.Core.Path.{_≡_}
 use mathlib.Core.Logic.{_≢_, _↔_}
 use mathlib.Core.Bool.{Bool}
@@ -10,16 +10,16 @@ use lib.ListN.{length, getD, take}
 use Rattle.linear.specs.Codes.{CodeField}
 use Rattle.linear.specs.Sums.{fold}
 use Rattle.patch.specs.Records.{read, records, declare, declared, nth, reads, cells-of}
-use Rattle.patch.specs.Faults.{position, Order, Later, Patch, First, fault, check-patch, passed, refused}
+use Rattle.patch.specs.Faults.{position, Order, Bytes, Later, Patch, First, fault, check-patch, passed, refused}
 use Rattle.patch.specs.Paths.{IsPath, paths, Among, Distinct, path-sum, starts, bit, rule}
-use Rattle.patch.specs.Encoding.{encode, Canonical, Row-values}
+use Rattle.patch.specs.Encoding.{encode, Echelon-numbers, Row-values}
 use Rattle.patch.specs.Rulebook.{Press, Answer, Pages, Rack, Refused, Answers, One-settled, no-entry, made, Agree, asked, Cause, Enters, Run}
 use Rattle.patch.specs.Settled.{Same-rule, Kept}
 use Rattle.patch.specs.Values.{flow, Values, off-to, dif-to, out-to, along, Solves, number-of-ones}
 
--- The check finds nothing exactly in a patch of fewer than L cells.
+-- The check finds nothing in bytes exactly where they are a patch of fewer than L cells.
 abbrev pub Checks-sound : Type 0
-Checks-sound = (order : List ℕ) (L q : ℕ) (bytes : List ℕ) → 0 < L
+Checks-sound = (order : List ℕ) (L q : ℕ) (bytes : List ℕ) → 0 < L → Bytes bytes
     → (check-patch order L q bytes ≡ passed) ↔ (Patch order q bytes × (cells-of (records bytes) < L))
 
 -- It refuses a length first, and then with the fault and the number of the first faulty record.
@@ -56,7 +56,7 @@ abbrev pub Lists-paths : Type 0
 Lists-paths = (order : List ℕ) (q : ℕ) (bytes : List ℕ) → Order order → Patch order q bytes → (x : ℕ → Bool)
     → ((p : List ℕ) → IsPath (records bytes) x p ↔ Among p (paths (records bytes) (length order) x)) × Distinct (paths (records bytes) (length order) x)
 
--- Lemma 1: whatever gives the values of the cells gives the rule, by the outlet arcs; and there are values.
+-- Whatever gives the values of the cells gives the rule, by the outlet arcs; and there are values.
 abbrev pub Rule-by-values : Type 0
 Rule-by-values = (q : ℕ) (plus times : ℕ → ℕ → ℕ) (neg inv : ℕ → ℕ) → CodeField q plus times neg inv
     → (order bytes : List ℕ) → Order order → Patch order q bytes → (setting : ℕ) (V : ℕ → ℕ) → ((u : ℕ) → u ≤ cells-of (records bytes) → V u < q)
@@ -87,11 +87,12 @@ abbrev pub Parity : Type 0
 Parity = (order bytes : List ℕ) → Order order → Patch order 2 bytes → (setting : ℕ)
     → rule bitXor bitAnd order bytes setting ≡ number-of-ones (records bytes) (paths (records bytes) (length order) (bit setting)) % 2
 
--- The bytes of a canonical diagram are a patch of k cells with its rule, in order, that keeps the first four conditions of the settled form.
+-- The encoding of a diagram in echelon form has k cells and its rule, keeps the order and the first four conditions of the settled form,
+-- and is a patch if cell numbers and codes fit into bytes.
 abbrev pub Encodes : Type 0
 Encodes = (q : ℕ) (plus times : ℕ → ℕ → ℕ) (neg inv : ℕ → ℕ) → CodeField q plus times neg inv → (order : List ℕ) → Order order
-    → (k : ℕ) (inp : ℕ → ℕ) (row : ℕ → ℕ → ℕ) (out head : ℕ → ℕ) → Canonical order q k inp row out head
-    → Patch order q (encode k inp row out) × Kept order (records (encode k inp row out)) × (cells-of (records (encode k inp row out)) ≡ k)
+    → (k : ℕ) (inp : ℕ → ℕ) (row : ℕ → ℕ → ℕ) (out head : ℕ → ℕ) → Echelon-numbers order q k inp row out head
+    → (k < 256 → q ≤ 256 → Patch order q (encode k inp row out)) × Kept order (records (encode k inp row out)) × (cells-of (records (encode k inp row out)) ≡ k)
     × ((setting : ℕ) (V : ℕ → ℕ) → ((u : ℕ) → u ≤ k → V u < q) → Row-values plus times k inp row (bit setting) V
     → rule plus times order (encode k inp row out) setting ≡ fold 0 plus (suc k) (λ t. times (out t) (V t)))
 
@@ -100,16 +101,16 @@ abbrev pub Encodes-same : Type 0
 Encodes-same = (k : ℕ) (inp inp′ : ℕ → ℕ) (row row′ : ℕ → ℕ → ℕ) (out out′ : ℕ → ℕ) → ((j : ℕ) → 0 < j → j ≤ k → inp j ≡ inp′ j)
     → ((j t : ℕ) → j ≤ k → t < j → row j t ≡ row′ j t) → ((t : ℕ) → t ≤ k → out t ≡ out′ t) → encode k inp row out ≡ encode k inp′ row′ out′
 
--- Every canonical diagram has values at every setting.
+-- Every diagram in echelon form has values at every setting.
 abbrev pub Row-values-exist : Type 0
 Row-values-exist = (q : ℕ) (plus times : ℕ → ℕ → ℕ) (neg inv : ℕ → ℕ) → CodeField q plus times neg inv → (order : List ℕ) → Order order
-    → (k : ℕ) (inp : ℕ → ℕ) (row : ℕ → ℕ → ℕ) (out head : ℕ → ℕ) → Canonical order q k inp row out head
+    → (k : ℕ) (inp : ℕ → ℕ) (row : ℕ → ℕ → ℕ) (out head : ℕ → ℕ) → Echelon-numbers order q k inp row out head
     → (setting : ℕ) → (V : ℕ → ℕ) × ((u : ℕ) → V u < q) × Row-values plus times k inp row (bit setting) V
 
--- And the other way: a patch that keeps order and conditions is the bytes of a canonical diagram.
+-- And the other way: a patch that keeps the order and the first four conditions is the encoding of a diagram in echelon form.
 abbrev pub Decodes : Type 0
 Decodes = (order : List ℕ) (q : ℕ) → 0 < q → Order order → (bytes : List ℕ) → Patch order q bytes → Kept order (records bytes)
-    → (row : ℕ → ℕ → ℕ) × (out : ℕ → ℕ) × (head : ℕ → ℕ) × Canonical order q (cells-of (records bytes)) (reads (records bytes)) row out head
+    → (row : ℕ → ℕ → ℕ) × (out : ℕ → ℕ) × (head : ℕ → ℕ) × Echelon-numbers order q (cells-of (records bytes)) (reads (records bytes)) row out head
     × (bytes ≡ encode (cells-of (records bytes)) (reads (records bytes)) row out)
 
 -- To agree at every setting is to agree whatever the inputs are.

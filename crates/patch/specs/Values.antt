@@ -1,4 +1,4 @@
--- The values of a patch's cells, by recursion, and the diagram of a patch. Assumes nothing.
+-- The values of a patch's cells, and the rows of its diagram. Assumes nothing.
 use mathlib.Core.Path.{_≡_}
 use mathlib.Core.Bool.{Bool, true, cond, _&&_}
 use mathlib.Core.List.{List, [], _∷_, map}
@@ -24,7 +24,7 @@ module _ (plus : ℕ → ℕ → ℕ) (rs : List Record) where
   abbrev pub sent : (Record → Bool) → ℕ → ℕ
   sent pick u = fold 0 plus (length rs) (λ k. cond (pick (nth rs k) && eqb u (target (nth rs k))) (code (nth rs k)) 0)
 
-  -- the vectors of the patch's diagram: off, on minus off, and outlet
+  -- the rows of the patch's diagram: off, on minus off, and outlet
   abbrev pub off-to : ℕ → ℕ → ℕ
   off-to t u = sent (off-from t) u
 
