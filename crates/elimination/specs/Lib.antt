@@ -1,0 +1,3 @@
+pub mod Arithmetic
+pub mod Lift
+pub mod Rows

@@ -1,0 +1,4 @@
+pub mod Backing
+pub mod Draft
+pub mod Settling
+pub mod Trimming
