@@ -1,5 +1,5 @@
 // What a rack is made of. The calls on it stand in the module below.
-ghost use Rattle.rack.specs.Kept.{Sixteen, Few-cells};
+ghost use Prim.Native.Nat.{_≤_};
 use patch::ScanOrder;
 use strip::Strip;
 
@@ -20,6 +20,7 @@ pub const SLOT_STRIPS: usize = 32;
 pub struct Slot {
     count: u8,
     inputs: [u8; 31],
+    ghost few: { count ≤ 31 },
 }
 
 // The plain part of a rack: its scan order, and its slots.
@@ -27,8 +28,6 @@ pub struct Slot {
 pub struct Desk {
     order: ScanOrder,
     slots: [Slot; 16],
-    ghost sixteen: { Sixteen slots },
-    ghost few: { Few-cells slots },
 }
 
 // A rack over a lent slice of strips. Strip 32 × s has the outlet of slot s, and strip 32 × s + k its cell k.

@@ -2,7 +2,7 @@
 ghost use mathlib.Core.Path.{_≡_};
 ghost use Prim.Native.Nat.{ℕ, _+_, _*_, _<_, _≤_};
 ghost use lib.Dec.{ltb};
-ghost use lib.ListN.{length};
+ghost use lib.ListN.{length, getD};
 ghost use mathlib.Core.Bool.{cond};
 ghost use Rattle.settling.specs.Settling.{Sound};
 ghost use Rattle.std.specs.Results.{Cases};
@@ -39,19 +39,25 @@ fn slot_count(strips: usize) -> usize
     if strips < STRIPS { 0 } else { SLOTS }
 }
 
-// The descriptor of a settled form: its number of cells, and their inputs in the scan order.
-fn described<S: Strip>(form: &Form<S>, order: &ScanOrder) -> Slot
+// What is kept of slot s.
+fn descriptor(desk: &Desk, s: usize) -> Slot
+    requires slot { ⌜ s < 16 ⌝ }
+    ensures { λ r. ⌜ r ≡ getD (now (desk .entry) .slots) s r ⌝ }
+{
+    desk.slots[s]
+}
+
+// Describes a settled form in a slot: its number of cells, and their inputs in the scan order.
+fn describe<S: Strip>(slot: &mut Slot, form: &Form<S>, order: &ScanOrder)
     requires few { ⌜ now form .cells ≤ 31 ⌝ }
-    ensures { λ r. ⌜ r .count ≡ now (form .entry) .cells ⌝ }
+    ensures { λ _. ⌜ now (slot .exit) .count ≡ now (form .entry) .cells ⌝ }
 {
     let mut inputs = [0; 31];
     for k in 0..form.cells {
         inputs[k] = order.input(form.pos[k + 1]);
     }
-    Slot {
-        count: form.cells as u8,
-        inputs,
-    }
+    slot.count = form.cells as u8;
+    slot.inputs = inputs;
 }
 
 // Settles a draft, or refuses it for its cells.
@@ -99,8 +105,8 @@ fn sum_draft<S: Strip>(strips: &[S], desk: &Desk, a: usize, b: usize, work: &mut
     requires room { ⌜ 512 ≤ length (now work) ⌝ }
     ensures { λ r. ⌜ Sound code len (now (work .exit)) r ⌝ }
 {
-    let first = desk.slots[a];
-    let second = desk.slots[b];
+    let first = descriptor(desk, a);
+    let second = descriptor(desk, b);
     let x = FormView {
         strips,
         base: SLOT_STRIPS * a,
@@ -130,7 +136,7 @@ fn tied_draft<S: Strip>(
     requires room { ⌜ 512 ≤ length (now work) ⌝ }
     ensures { λ r. ⌜ Sound code len (now (work .exit)) r ⌝ }
 {
-    let slot = desk.slots[a];
+    let slot = descriptor(desk, a);
     let form = FormView {
         strips,
         base: SLOT_STRIPS * a,
@@ -155,7 +161,7 @@ impl<'a, S: Strip> Rack<'a, S> {
         let mut draft = draft_patch(work, &patch);
         let form = settled(work, &mut draft)?;
         keep_form(self.strips, SLOT_STRIPS * slot, work, &form);
-        self.desk.slots[slot] = described(&form, &order);
+        describe(&mut self.desk.slots[slot], &form, &order);
         Ok(())
     }
 
@@ -178,7 +184,7 @@ impl<'a, S: Strip> Rack<'a, S> {
         let mut draft = sum_draft(self.strips, &desk, a, b, work);
         let form = settled(work, &mut draft)?;
         keep_form(self.strips, SLOT_STRIPS * to, work, &form);
-        self.desk.slots[to] = described(&form, &desk.order);
+        describe(&mut self.desk.slots[to], &form, &desk.order);
         Ok(())
     }
 
@@ -202,7 +208,7 @@ impl<'a, S: Strip> Rack<'a, S> {
             };
         } else {
             keep_weighed(self.strips, SLOT_STRIPS * to, SLOT_STRIPS * a, c);
-            self.desk.slots[to] = self.desk.slots[a];
+            self.desk.slots[to] = descriptor(&self.desk, a);
         }
         Ok(())
     }
@@ -237,7 +243,7 @@ impl<'a, S: Strip> Rack<'a, S> {
         let mut draft = tied_draft(self.strips, &desk, a, input, v == 1, work);
         let form = settled(work, &mut draft)?;
         keep_form(self.strips, SLOT_STRIPS * to, work, &form);
-        self.desk.slots[to] = described(&form, &order);
+        describe(&mut self.desk.slots[to], &form, &order);
         Ok(())
     }
 
@@ -251,8 +257,8 @@ impl<'a, S: Strip> Rack<'a, S> {
         if b >= slots {
             return Err(Refusal::NoSlot);
         }
-        let first = self.desk.slots[a];
-        let second = self.desk.slots[b];
+        let first = descriptor(&self.desk, a);
+        let second = descriptor(&self.desk, b);
         if first.count != second.count {
             return Ok(false);
         }
@@ -268,7 +274,7 @@ impl<'a, S: Strip> Rack<'a, S> {
         if a >= slot_count(strips.len()) {
             return Err(Refusal::NoSlot);
         }
-        Ok(self.desk.slots[a].count as usize)
+        Ok(descriptor(&self.desk, a).count as usize)
     }
 
     // The code of a rule at a setting, and its velocity.
@@ -280,7 +286,7 @@ impl<'a, S: Strip> Rack<'a, S> {
         if setting >> self.desk.order.count() != 0 {
             return Err(Refusal::SettingRange);
         }
-        let slot = self.desk.slots[a];
+        let slot = descriptor(&self.desk, a);
         let form = FormView {
             strips,
             base: SLOT_STRIPS * a,
@@ -299,7 +305,7 @@ impl<'a, S: Strip> Rack<'a, S> {
         if a >= slot_count(strips.len()) {
             return Err(Refusal::NoSlot);
         }
-        let slot = self.desk.slots[a];
+        let slot = descriptor(&self.desk, a);
         let form = FormView {
             strips,
             base: SLOT_STRIPS * a,
