@@ -1,6 +1,6 @@
 -- What the whole check answers, and what bytes that pass it are. Assumes nothing.
 use mathlib.Core.Path.{_≡_, refl, sym, ap, _∙_}
-use mathlib.Core.Logic.{_≢_}
+use mathlib.Core.Logic.{_≢_, _↔_}
 use mathlib.Core.Bool.{Bool, true, false, cond}
 use mathlib.Core.List.{List, [], _∷_}
 use Prim.Native.Nat.{ℕ, zero, suc, _+_, _%_, _<_, _≤_}
@@ -8,9 +8,13 @@ use native.Mathlib.Omega.{arith}
 use lib.Dec.{eqb, ltb, leb}
 use lib.ListN.{length}
 use Rattle.std.proofs.shelf.Tests.{cond-true, cond-false, lt-ltb, le-ltb, eq-eqb, le-leb, ltb-false, true≢false}
+use Rattle.patch.specs.declared.order.ScanOrder.{ScanOrder}
+use Rattle.patch.specs.declared.window.Patch.{Patch as Window}
 use Rattle.patch.specs.Records.{Record, filler, cell, off, on, outlet, unmarked, unclean, records, declare, cells-of}
 use Rattle.patch.specs.Faults.{Verdict, passed, refused, fault, check-from, check-patch, Bytes, Patch}
 use Rattle.patch.specs.Admitted.{examined, passes, Admitted}
+use Rattle.patch.specs.Orders.{listed}
+use Rattle.patch.specs.Windows.{seen, Admits}
 use Rattle.patch.proofs.Checked.{checks-sound, checks-length}
 
 module _ (order : List ℕ) (L q : ℕ) (bytes : List ℕ) where
@@ -80,3 +84,13 @@ admitted-patch order L q bytes a = sound-patch order L q bytes (a .0) (admitted-
 pub admitted-none : (order : List ℕ) (L q : ℕ) → Admitted order L q []
 unfolding examined
 admitted-none order L q = (λ i h. absurd (omega arith), refl)
+
+pub admits-patches : (order : List ℕ) (L q : ℕ) (bytes : List ℕ) → 0 < L
+    → Admitted order L q bytes ↔ (Patch order q bytes × (cells-of (records bytes) < L) × (length bytes ≤ 65536))
+admits-patches order L q bytes l = (
+  λ a. (admitted-patch order L q bytes a, admitted-cells order L q bytes l a, admitted-short order L q bytes a),
+  λ p. passed-admitted order L q bytes (p .0 .held) (p .2) (checks-sound order L q bytes l (p .0 .held) .1 (p .0, p .1)),
+)
+
+pub shows-all : (bytes : List ℕ) (order : ScanOrder) (L q : ℕ) (w : Window) → Admits bytes order L q w → examined (listed order) L q bytes ≡ passed → seen w ≡ bytes
+shows-all bytes order L q w a e = a .shows ∙ cond-true _ _ _ (ap passes e)

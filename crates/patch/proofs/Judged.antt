@@ -3,29 +3,36 @@ use mathlib.Core.Path.{_≡_, refl, sym, ap, subst, _∙_}
 use mathlib.Core.Logic.{_≢_, _⊎_, inl, inr}
 use mathlib.Core.Bool.{Bool, true, false, cond, not, _&&_, _||_}
 use mathlib.Core.List.{List, [], _∷_, _++_}
-use Prim.Native.Nat.{ℕ, zero, suc, _+_, _-_, _*_, _<_, _≤_}
+use Prim.Native.Nat.{ℕ, zero, suc, _+_, _-_, _<_, _≤_}
 use native.Mathlib.Omega.{arith}
 use lib.Dec.{eqb, ltb, leb}
-use lib.ListN.{length, getD, set, take, drop}
+use lib.ListN.{length, getD, set}
 use Rattle.std.specs.declared.result.Result.{Result}
 use Rattle.std.specs.declared.result.Result.the-variants.{Ok, Err}
 use Rattle.std.proofs.shelf.Tests.{cond-true, cond-false, or-parts, ltb-false, eqb-false, lt-ltb, le-ltb, eq-eqb, ne-eqb, cases-eq, cases-lt}
-use Rattle.std.proofs.shelf.Lists.{length-push, getD-push, getD-append-left, getD-set-same, getD-set-other, length-set, length-take-le, length-drop, getD-take, getD-drop}
+use Rattle.std.proofs.shelf.Lists.{length-push, getD-push, getD-append-left, getD-set-same, getD-set-other, length-set}
 use Rattle.patch.specs.declared.cells.Cells.{Cells}
 use Rattle.patch.specs.declared.record.Record.{Record as Entry}
 use Rattle.patch.specs.declared.record.Record.the-variants.{Filler, Cell, Off, On, Outlet}
 use Rattle.patch.specs.declared.refusal.Refusal.{Refusal}
-use Rattle.patch.specs.declared.refusal.Refusal.the-variants.{BrokenRecord, UnknownMark, NotZero, CellInput, CellLimit, UnknownCell, NotLater, ArcCode}
+use Rattle.patch.specs.declared.refusal.Refusal.the-variants.{UnknownMark, NotZero, CellInput, CellLimit, UnknownCell, NotLater, ArcCode}
 use Rattle.patch.specs.Records.{Record, filler, cell, off, on, outlet, unmarked, unclean, read, input}
 use Rattle.patch.specs.Faults.{position, later, arc-fault, fault, Fine}
 use Rattle.patch.specs.Refusals.{number, place}
-use Rattle.patch.specs.Entries.{meant, judged-four, told}
+use Rattle.patch.specs.Judging.{meant, Holds, Says, fine, faulty, four, Judges, told}
 
--- the program's cells stand for a list of inputs, cell 1 first
-pub record Holds (s : Cells) (cells : List ℕ) : Type 0 where
-  pub counts : s .count ≡ length cells
-  pub keeps : (f : ℕ) → 0 < f → f ≤ length cells → f < 256 → getD (s .inputs) f 0 ≡ input cells f
-  pub long : length (s .inputs) ≡ 256
+-- the judgement on four bytes at a place, when `count` cells stand before them and cell f reads `reads f`
+abbrev pub judged-four : List ℕ → ℕ → ℕ → ℕ → (ℕ → ℕ) → ℕ → ℕ → ℕ → ℕ → ℕ → Result Entry Refusal
+judged-four order L q count reads place m a b c =
+    cond (ltb 4 m) (Err (UnknownMark place)) (
+    cond (eqb m 0) (cond (eqb a 0 && eqb b 0 && eqb c 0) (Ok Filler) (Err (NotZero place))) (
+    cond (eqb m 1) (
+    cond (eqb b 0 && eqb c 0) (cond (leb (length order) a) (Err (CellInput place)) (cond (leb L (count + 1)) (Err (CellLimit place)) (Ok (Cell a)))) (Err (NotZero place))) (
+    cond (eqb m 4) (
+    cond (eqb a 0) (cond (ltb count b) (Err (UnknownCell place)) (cond (leb q c) (Err (ArcCode place)) (Ok (Outlet b c)))) (Err (NotZero place))) (
+    cond (eqb a 0 || ltb count a || ltb count b) (Err (UnknownCell place)) (
+    cond (not (eqb b 0 || ltb (position order (reads a)) (position order (reads b)))) (Err (NotLater place)) (
+    cond (leb q c) (Err (ArcCode place)) (cond (eqb m 2) (Ok (Off a b c)) (Ok (On a b c)))))))))
 
 pub holds-none : (s : Cells) → s .count ≡ 0 → length (s .inputs) ≡ 256 → Holds s []
 holds-none s e l = record { counts = e; keeps = λ f p h. absurd (omega arith); long = l }
@@ -71,16 +78,11 @@ module _ (s after : Cells) (cells : List ℕ) (i : ℕ) (h : Holds s cells) (mor
     long = long-after;
   }
 
--- an answer about a record r at place k whose fault is x
-pub data Says (r : Record) (k : ℕ) : Result Entry Refusal → ℕ → Type 0 where
-  fine : (e : Entry) → meant e ≡ r → Says r k (Ok e) 0
-  faulty : (e : Refusal) → place e ≡ k → eqb (number e) 0 ≡ false → Says r k (Err e) (number e)
-
-pub says-fine : {r : Record} {k x : ℕ} {j : Result Entry Refusal} (e : Entry) → Says r k j x → Ok e ≡ j → (meant e ≡ r) × (x ≡ 0)
+pub says-fine : {r : Record} {k x : ℕ} {j : Result Entry Refusal} (e : Entry) → Says r k j x → j ≡ Ok e → (meant e ≡ r) × (x ≡ 0)
 says-fine e (fine d h) p = let same : e ≡ d = cc in (ap meant same ∙ h, refl)
 says-fine e (faulty d h n) p = let z : _≡_ {A = ℕ} 0 1 = cc in absurd (omega arith)
 
-pub says-faulty : {r : Record} {k x : ℕ} {j : Result Entry Refusal} (e : Refusal) → Says r k j x → Err e ≡ j → (x ≡ number e) × (place e ≡ k) × (eqb x 0 ≡ false)
+pub says-faulty : {r : Record} {k x : ℕ} {j : Result Entry Refusal} (e : Refusal) → Says r k j x → j ≡ Err e → (x ≡ number e) × (place e ≡ k) × (x ≢ 0)
 says-faulty e (fine d h) p = let z : _≡_ {A = ℕ} 0 1 = cc in absurd (omega arith)
 says-faulty e (faulty d h n) p = let same : d ≡ e = cc in (ap number same, ap place (sym same) ∙ h, n)
 
@@ -110,12 +112,12 @@ module _ (order : List ℕ) (L q : ℕ) (cells : List ℕ) (k : ℕ) where
 
     cell-says : (a : ℕ) → Says (cell a) k (cond (leb (length order) a) (Err (CellInput k)) (cond (leb L (s .count + 1)) (Err (CellLimit k)) (Ok (Cell a)))) (fault order L q cells (cell a))
     cell-says a =
-        rw (h .counts) (pick (leb (length order) a) (faulty (CellInput k) refl refl) (
-        λ _. pick (leb L (length cells + 1)) (faulty (CellLimit k) refl refl) (λ _. fine (Cell a) refl)))
+        rw (h .counts) (pick (leb (length order) a) (faulty (CellInput k) refl (λ z. omega arith)) (
+        λ _. pick (leb L (length cells + 1)) (faulty (CellLimit k) refl (λ z. omega arith)) (λ _. fine (Cell a) refl)))
 
     outlet-says : (b c : ℕ) → Says (outlet b c) k (cond (ltb (s .count) b) (Err (UnknownCell k)) (cond (leb q c) (Err (ArcCode k)) (Ok (Outlet b c)))) (fault order L q cells (outlet b c))
     outlet-says b c =
-        rw (h .counts) (pick (ltb (length cells) b) (faulty (UnknownCell k) refl refl) (λ _. pick (leb q c) (faulty (ArcCode k) refl refl) (λ _. fine (Outlet b c) refl)))
+        rw (h .counts) (pick (ltb (length cells) b) (faulty (UnknownCell k) refl (λ z. omega arith)) (λ _. pick (leb q c) (faulty (ArcCode k) refl (λ z. omega arith)) (λ _. fine (Outlet b c) refl)))
 
     arc-says : (r : Record) (e : Entry) → meant e ≡ r → (a b c : ℕ) → a < 256 → b < 256
         → Says r k (
@@ -123,22 +125,27 @@ module _ (order : List ℕ) (L q : ℕ) (cells : List ℕ) (k : ℕ) where
         cond (not (eqb b 0 || ltb (position order (reads a)) (position order (reads b)))) (Err (NotLater k)) (cond (leb q c) (Err (ArcCode k)) (Ok e)))) (
         arc-fault order q cells a b c)
     arc-says r e is a b c u v =
-        rw (h .counts) (pick (eqb a 0 || ltb (length cells) a || ltb (length cells) b) (faulty (UnknownCell k) refl refl) (
+        rw (h .counts) (pick (eqb a 0 || ltb (length cells) a || ltb (length cells) b) (faulty (UnknownCell k) refl (λ z. omega arith)) (
         λ o.
         let p = or-parts (eqb a 0 || ltb (length cells) a) (ltb (length cells) b) o in
         let p2 = or-parts (eqb a 0) (ltb (length cells) a) (p .0) in
         let some : 0 < a = omega (arith, eqb-false a 0 (p2 .0)) in
         rw (later-same a b some (ltb-false _ _ (p2 .1)) u (ltb-false _ _ (p .1)) v) (
-        pick (not (later order cells a b)) (faulty (NotLater k) refl refl) (λ _. pick (leb q c) (faulty (ArcCode k) refl refl) (λ _. fine e is)))))
+        pick (not (later order cells a b)) (faulty (NotLater k) refl (λ z. omega arith)) (λ _. pick (leb q c) (faulty (ArcCode k) refl (λ z. omega arith)) (λ _. fine e is)))))
 
-    pub four-says : (m a b c : ℕ) → a < 256 → b < 256 → Says (read m a b c) k (judged-four order L q (s .count) reads k m a b c) (fault order L q cells (read m a b c))
-    four-says zero a b c u v = both (eqb a 0 && eqb b 0 && eqb c 0) filler unclean (fine Filler refl) (faulty (NotZero k) refl refl)
-    four-says (suc zero) a b c u v = both (eqb b 0 && eqb c 0) (cell a) unclean (cell-says a) (faulty (NotZero k) refl refl)
+    four-says : (m a b c : ℕ) → a < 256 → b < 256 → Says (read m a b c) k (judged-four order L q (s .count) reads k m a b c) (fault order L q cells (read m a b c))
+    four-says zero a b c u v = both (eqb a 0 && eqb b 0 && eqb c 0) filler unclean (fine Filler refl) (faulty (NotZero k) refl (λ z. omega arith))
+    four-says (suc zero) a b c u v = both (eqb b 0 && eqb c 0) (cell a) unclean (cell-says a) (faulty (NotZero k) refl (λ z. omega arith))
     four-says (suc (suc zero)) a b c u v = arc-says (off a b c) (Off a b c) refl a b c u v
     four-says (suc (suc (suc zero))) a b c u v = arc-says (on a b c) (On a b c) refl a b c u v
-    four-says (suc (suc (suc (suc zero)))) a b c u v = both (eqb a 0) (outlet b c) unclean (outlet-says b c) (faulty (NotZero k) refl refl)
+    four-says (suc (suc (suc (suc zero)))) a b c u v = both (eqb a 0) (outlet b c) unclean (outlet-says b c) (faulty (NotZero k) refl (λ z. omega arith))
     four-says (suc (suc (suc (suc (suc n))))) a b c u v =
-        rw (unmarked-four (suc (suc (suc (suc (suc n))))) a b c (omega arith), lt-ltb 4 (suc (suc (suc (suc (suc n))))) (omega arith)) (faulty (UnknownMark k) refl refl)
+        rw (unmarked-four (suc (suc (suc (suc (suc n))))) a b c (omega arith), lt-ltb 4 (suc (suc (suc (suc (suc n))))) (omega arith)) (faulty (UnknownMark k) refl (λ z. omega arith))
+
+pub judged-tells : (order : List ℕ) (L q : ℕ) (s : Cells) (k : ℕ) (xs : List ℕ) → ((i : ℕ) → getD xs i 0 < 256) → (r : Result Entry Refusal)
+    → r ≡ judged-four order L q (s .count) (λ f. getD (s .inputs) f 0) k (getD xs 0 0) (getD xs 1 0) (getD xs 2 0) (getD xs 3 0) → Judges order L q s k xs r
+judged-tells order L q s k xs typed r e cells h =
+    rw e (four-says order L q cells k s h (getD xs 0 0) (getD xs 1 0) (getD xs 2 0) (getD xs 3 0) (typed 1) (typed 2))
 
 -- what four fine bytes say
 clean : (order : List ℕ) (q : ℕ) (cells : List ℕ) (b : Bool) (r : Record) → Fine order q cells (cond b r unclean) → r ≡ cond b r unclean

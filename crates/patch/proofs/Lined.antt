@@ -1,15 +1,15 @@
 -- The lines of a patch, one record more at a time. Assumes nothing.
-use mathlib.Core.Path.{_≡_, refl, sym, ap, _∙_}
+use mathlib.Core.Path.{_≡_, sym, ap, _∙_}
 use mathlib.Core.Logic.{_≢_}
 use mathlib.Core.List.{List, [], _∷_, _++_}
-use Prim.Native.Nat.{ℕ, zero, suc, _+_, _<_, _≤_}
+use Prim.Native.Nat.{ℕ, zero, suc, _+_, _<_}
 use native.Mathlib.Omega.{arith}
-use lib.ListN.{length, getD, take}
-use Rattle.std.proofs.shelf.Lists.{append-assoc, append-nil, length-push, nil-from-length}
+use lib.ListN.{length, take}
+use Rattle.std.proofs.shelf.Lists.{append-assoc, append-nil, length-push}
 use Rattle.patch.specs.declared.record.Record.{Record as Entry}
-use Rattle.patch.specs.declared.record.Record.the-variants.{Filler, Cell, Off, On, Outlet}
-use Rattle.patch.specs.Entries.{meant}
-use Rattle.patch.specs.Listing.{line, lines, or-silent, listing-text}
+use Rattle.patch.specs.declared.record.Record.the-variants.{Cell}
+use Rattle.patch.specs.Judging.{meant}
+use Rattle.patch.specs.Listing.{line, lines, or-silent}
 use Rattle.patch.specs.Output.{laid, Put}
 use Rattle.patch.specs.Records.{Record, declare, declared, nth}
 

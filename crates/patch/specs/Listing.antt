@@ -49,3 +49,14 @@ abbrev pub Printed : List ℕ → List ℕ → Result ℕ Refusal → List ℕ �
 Printed text out r after = Cases r (
     λ n. (n ≡ length text) × (length text ≤ length out) × (after ≡ text ++ drop (length text) out)) (
     λ e. (e ≡ ShortOutput) × (length out < length text) × (after ≡ out))
+
+-- some records without the filler among them
+abbrev pub solid : List Record → List Record
+solid [] = []
+solid (filler ∷ rs) = solid rs
+solid (cell i ∷ rs) = cell i ∷ solid rs
+solid (off f t c ∷ rs) = off f t c ∷ solid rs
+solid (on f t c ∷ rs) = on f t c ∷ solid rs
+solid (outlet t c ∷ rs) = outlet t c ∷ solid rs
+solid (unmarked ∷ rs) = unmarked ∷ solid rs
+solid (unclean ∷ rs) = unclean ∷ solid rs

@@ -15,11 +15,10 @@ use Rattle.patch.specs.Undoes.{EachOnce}
 abbrev pub listed : ScanOrder → List ℕ
 listed s = take (s .count) (s .inputs)
 
--- why a list is refused
-pub record Unlisted (list : List ℕ) (e : Refusal) : Type 0 where
-  pub wrong :
-      ((e ≡ InputCount) × ((length list ≡ 0) ⊎ (24 < length list)))
-      ⊎ ((e ≡ InputList) × (1 ≤ length list) × (length list ≤ 24) × (EachOnce list → ⊥))
+-- why a list is refused: its length, or that it does not hold each input once
+pub data Unlisted (list : List ℕ) : Refusal → Type 0 where
+  miscounted : (length list ≡ 0) ⊎ (24 < length list) → Unlisted list InputCount
+  mislisted : 1 ≤ length list → length list ≤ 24 → (EachOnce list → ⊥) → Unlisted list InputList
 
 -- arranged by a list: the list is taken over, or refused and nothing is changed
 pub record Taken (list : List ℕ) (after : ScanOrder) : Type 0 where

@@ -1,8 +1,8 @@
 // The cells declared so far: how many, and which input each reads. An arc names a cell by one byte, so the inputs of the first 255 are kept.
 ghost use mathlib.Core.Path.{_≡_};
-ghost use mathlib.Core.Bool.{cond};
+ghost use mathlib.Core.Bool.{cond, _||_};
 ghost use Prim.Native.Nat.{_+_, _^_, _<_};
-ghost use lib.Dec.{leb, ltb};
+ghost use lib.Dec.{eqb, leb, ltb};
 ghost use lib.ListN.{length, getD, set};
 
 #[derive(Clone, Copy)]
@@ -26,6 +26,13 @@ impl Cells {
         ensures { λ r. ⌜ r ≡ leb cell (now (self .entry) .count) ⌝ }
     {
         cell as usize <= self.count
+    }
+
+    // Whether an arc comes from the steady cell, or an end of it is not there.
+    pub fn lacks(&self, from: u8, to: u8) -> bool
+        ensures { λ r. ⌜ r ≡ eqb from 0 || ltb (now (self .entry) .count) from || ltb (now (self .entry) .count) to ⌝ }
+    {
+        from == 0 || !self.has(from) || !self.has(to)
     }
 
     // The input that a cell reads.

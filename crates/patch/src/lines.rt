@@ -1,6 +1,6 @@
 // The listing of a patch and the line of a refusal, as text.
 ghost use Prim.Native.Nat.{_+_, _^_, _<_, _≤_};
-ghost use Rattle.patch.specs.Entries.{meant};
+ghost use Rattle.patch.specs.Judging.{meant};
 ghost use Rattle.patch.specs.Listing.{arc, line, listing-text, refusal-text, Printed};
 ghost use Rattle.patch.specs.Output.{Put};
 ghost use Rattle.patch.specs.Records.{records};
@@ -100,8 +100,8 @@ fn put_refusal(refusal: &Refusal, out: &mut [u8]) -> usize
 pub fn refusal_line(refusal: &Refusal, out: &mut [u8]) -> Result<usize, Refusal>
     ensures { λ r. ⌜ Printed (refusal-text (now (refusal .entry))) (now (out .entry)) r (now (out .exit)) ⌝ }
 {
-    let length = put_refusal(refusal, &mut []);
-    if out.len() < length {
+    let needed = put_refusal(refusal, &mut []);
+    if out.len() < needed {
         return Err(Refusal::ShortOutput);
     }
     Ok(put_refusal(refusal, out))

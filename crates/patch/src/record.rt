@@ -2,8 +2,8 @@
 ghost use mathlib.Core.Path.{_≡_};
 ghost use mathlib.Core.Bool.{_||_};
 ghost use lib.Dec.{eqb, ltb};
-ghost use lib.ListN.{getD};
-ghost use Rattle.patch.specs.Entries.{judged, told};
+ghost use lib.ListN.{length, getD};
+ghost use Rattle.patch.specs.Judging.{Judges, told};
 ghost use Rattle.patch.specs.Faults.{position};
 ghost use Rattle.patch.specs.Orders.{listed};
 use crate::cells::Cells;
@@ -36,7 +36,8 @@ pub fn check_record(
     places: usize,
     codes: u8,
 ) -> Result<Record, Refusal>
-    ensures { λ r. ⌜ r ≡ judged (listed (now (order .entry))) places codes (now (cells .entry) .count) (λ f. getD (now (cells .entry) .inputs) f 0) place (now («record» .entry)) ⌝ }
+    requires { ⌜ length (now «record») ≡ 4 ⌝ }
+    ensures { λ r. ⌜ Judges (listed (now (order .entry))) places codes (now (cells .entry)) place (now («record» .entry)) r ⌝ }
 {
     match record {
         [5..=255, _, _, _] => Err(Refusal::UnknownMark(place)),
@@ -44,9 +45,7 @@ pub fn check_record(
         [1, i, 0, 0] if order.count() <= *i => Err(Refusal::CellInput(place)),
         [1, _, 0, 0] if cells.full(places) => Err(Refusal::CellLimit(place)),
         [1, i, 0, 0] => Ok(Record::Cell(*i)),
-        [2 | 3, f, t, _] if *f == 0 || !cells.has(*f) || !cells.has(*t) => Err(Refusal::UnknownCell(
-            place,
-        )),
+        [2 | 3, f, t, _] if cells.lacks(*f, *t) => Err(Refusal::UnknownCell(place)),
         [2 | 3, f, t, _] if !leads_later(*f, *t, cells, order) => Err(Refusal::NotLater(place)),
         [2 | 3, _, _, c] if codes <= *c => Err(Refusal::ArcCode(place)),
         [2, f, t, c] => Ok(Record::Off(*f, *t, *c)),
@@ -55,7 +54,7 @@ pub fn check_record(
         [4, 0, _, c] if codes <= *c => Err(Refusal::ArcCode(place)),
         [4, 0, t, c] => Ok(Record::Outlet(*t, *c)),
         [_, _, _, _] => Err(Refusal::NotZero(place)),
-        _ => Err(Refusal::BrokenRecord),
+        _ => unreachable(),
     }
 }
 

@@ -1,4 +1,5 @@
-// Nothing runs here: the contract names the theorems on patches.
+// Nothing runs here: each contract names what is proved.
+ghost use Rattle.patch.specs.Laws.{Orders-lawful, Windows-show-patches, Windows-show-all, Admits-patches, Numbers-read-back, Listing-tells, Texts};
 ghost use Rattle.patch.specs.Samples.{Samples};
 ghost use Rattle.patch.specs.Theorems.{Checks-sound, Checks-length, Checks-refused, Tables-order, Records-by-fours, Checks-passed, Lists-paths, Rule-by-values, Has-values, Rule-by-diagram, Patch-diagram, Parity, Encodes, Encodes-same, Row-values-exist, Decodes, Settings-inputs, Made, One-cause, One-answer, One-reading, Quiet};
 
@@ -26,6 +27,31 @@ pub fn theorems() -> u8
     ensures reading { λ _. ⌜ One-reading ⌝ }
     ensures quiet { λ _. ⌜ Quiet ⌝ }
     ensures samples { λ _. ⌜ Samples ⌝ }
+{
+    0
+}
+
+// Scan orders are lawful.
+pub fn orders_are_lawful() -> u8
+    ensures { λ _. ⌜ Orders-lawful ⌝ }
+{
+    0
+}
+
+// Windows show patches, and which patches can be admitted.
+pub fn windows_show_patches() -> u8
+    ensures shown { λ _. ⌜ Windows-show-patches ⌝ }
+    ensures whole { λ _. ⌜ Windows-show-all ⌝ }
+    ensures admitted { λ _. ⌜ Admits-patches ⌝ }
+{
+    0
+}
+
+// A listing says all of a patch but its filler.
+pub fn listing_tells_records() -> u8
+    ensures numbers { λ _. ⌜ Numbers-read-back ⌝ }
+    ensures records { λ _. ⌜ Listing-tells ⌝ }
+    ensures texts { λ _. ⌜ Texts ⌝ }
 {
     0
 }

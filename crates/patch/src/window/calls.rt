@@ -1,7 +1,7 @@
 // How a window is taken, and what is seen through it.
 ghost use mathlib.Core.Path.{_≡_};
 ghost use lib.ListN.{length};
-ghost use Rattle.patch.specs.Entries.{meant};
+ghost use Rattle.patch.specs.Judging.{meant};
 ghost use Rattle.patch.specs.Records.{records, nth};
 ghost use Rattle.patch.specs.Windows.{seen, Admits};
 use super::Patch;

@@ -1,7 +1,4 @@
 use mathlib.Core.Path.{_∙_}
-use mathlib.Core.List.{List}
-use Prim.Native.Nat.{ℕ}
-use native.Mathlib.Omega.{arith}
 use Rattle.std.proofs.shelf.Results.{err-from-errBy}
 use Rattle.patch.specs.Orders.{listed}
 use Rattle.patch.proofs.Admitting.{examined-long, examined-broken, examined-records}

@@ -1,17 +1,15 @@
-use mathlib.Core.Path.{_≡_, refl, sym, ap, subst, _∙_}
+use mathlib.Core.Path.{refl, sym, ap, subst, _∙_}
 use mathlib.Core.List.{List, []}
-use Prim.Native.Nat.{ℕ, _+_, _<_}
+use Prim.Native.Nat.{ℕ}
 use native.Mathlib.Omega.{arith}
-use lib.ListN.{length, getD, take, drop}
-use Rattle.std.specs.declared.result.Result.the-variants.{Ok, Err}
+use lib.ListN.{take}
 use Rattle.std.proofs.shelf.Lists.{at-drop-all}
-use Rattle.patch.specs.declared.record.Record.the-variants.{Cell}
 use Rattle.patch.specs.Records.{records, declare, declared}
 use Rattle.patch.specs.Faults.{check-from}
 use Rattle.patch.specs.Orders.{listed}
-use Rattle.patch.specs.Entries.{meant}
+use Rattle.patch.specs.Judging.{meant, Holds}
 use Rattle.patch.proofs.Checked.{records-length}
-use Rattle.patch.proofs.Judged.{Holds, holds-none, holds-more}
+use Rattle.patch.proofs.Judged.{holds-none, holds-more}
 use Rattle.patch.proofs.Scanning.{no-cell, next-cells, goes-on, stops}
 use Rattle.patch.proofs.check.scan.Needs.{in-Cell, in-rest}
 use Rattle.patch.proofs.check.scan.Needs as need
@@ -25,9 +23,8 @@ loop-k-again c =
     let order = listed (c .args .order .now) in
     let k : ℕ = c .loop-k .k in
     let inv = c .loop-k .inv in
-    let typed : (i : ℕ) → getD bytes i 0 < 256 = λ i. omega (arith, c .typed .bytes i) in
-    let next = next-cells order (c .args .places) (c .args .codes) bytes typed k (c .loop-k-test .taken) (c .loop-k .cells) (inv .1) (c .in-Ok .record) (c .in-Ok .ensures tt) in
-    let on = goes-on order (c .args .places) (c .args .codes) bytes typed k (c .loop-k-test .taken) (c .loop-k .cells) (inv .1) (c .in-Ok .record) (c .in-Ok .ensures tt) in
+    let next = next-cells order (c .args .places) (c .args .codes) bytes k (c .loop-k-test .taken) (c .loop-k .cells) (inv .1) (c .check-record .result) (c .check-record .ensures) (c .in-Ok .record) (c .in-Ok .is) in
+    let on = goes-on order (c .args .places) (c .args .codes) bytes k (c .loop-k-test .taken) (c .loop-k .cells) (inv .1) (c .check-record .result) (c .check-record .ensures) (c .in-Ok .record) (c .in-Ok .is) in
     let P : List ℕ → Type 0 = λ cs. Holds (c .match-record .cells) cs in
     elim (c .match-record .came) [
       | in-Cell w ↦ (
@@ -47,10 +44,9 @@ loop-k-again c =
 pub returns-in-Err : need.returns-in-Err
 returns-in-Err c =
     let bytes : List ℕ = c .args .bytes .now in
-    let typed : (i : ℕ) → getD bytes i 0 < 256 = λ i. omega (arith, c .typed .bytes i) in
     sym (c .loop-k .inv .2)
-    ∙ stops (listed (c .args .order .now)) (c .args .places) (c .args .codes) bytes typed (c .loop-k .k) (c .loop-k-test .taken) (c .loop-k .cells) (c .loop-k .inv .1) (
-    c .in-Err .refusal) (c .in-Err .ensures tt)
+    ∙ stops (listed (c .args .order .now)) (c .args .places) (c .args .codes) bytes (c .loop-k .k) (c .loop-k-test .taken) (c .loop-k .cells) (c .loop-k .inv .1) (c .check-record .result) (
+    c .check-record .ensures) (c .in-Err .refusal) (c .in-Err .is)
 
 pub returns-after-loop-k : need.returns-after-loop-k
 returns-after-loop-k c =

@@ -5,7 +5,7 @@ use lib.ListN.{take, drop}
 use Rattle.patch.specs.Records.{records, declared}
 use Rattle.patch.specs.Faults.{check-from}
 use Rattle.patch.specs.Orders.{listed}
-use Rattle.patch.proofs.Judged.{Holds}
+use Rattle.patch.specs.Judging.{Holds}
 use Rattle.patch.proofs.check.scan.Given as given
 
 abbrev pub Inv-loop-k : given.InvT-loop-k

@@ -4,11 +4,10 @@ use Prim.Native.Nat.{ℕ, _+_, _<_, _≤_}
 use native.Mathlib.Omega.{arith}
 use lib.ListN.{length, take}
 use Rattle.std.proofs.shelf.Lists.{take-all}
-use Rattle.patch.specs.Entries.{meant}
-use Rattle.patch.specs.Listing.{line, lines, or-silent}
+use Rattle.patch.specs.Judging.{meant}
+use Rattle.patch.specs.Listing.{line, lines}
 use Rattle.patch.specs.Orders.{listed}
-use Rattle.patch.specs.Output.{Put}
-use Rattle.patch.specs.Records.{records, declare, declared, nth}
+use Rattle.patch.specs.Records.{records, declare, declared}
 use Rattle.patch.specs.Records as rec
 use Rattle.patch.specs.Windows.{seen}
 use Rattle.patch.proofs.Admitting.{admitted-short}

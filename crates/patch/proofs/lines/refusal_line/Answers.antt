@@ -9,5 +9,5 @@ pub returns : need.returns
 returns c =
     let text = refusal-text (c .args .refusal .now) in
     let out = c .args .out .now in
-    let fits : length text ≤ length out = omega (arith, c .put-refusal-length .ensures .ends) in
+    let fits : length text ≤ length out = omega (arith, c .put-refusal-needed .ensures .ends) in
     (put-length out text _ _ (c .put-refusal .ensures), fits, put-whole out text _ _ (c .put-refusal .ensures) fits)

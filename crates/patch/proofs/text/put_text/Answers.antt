@@ -1,7 +1,7 @@
 use mathlib.Core.Path.{_≡_, sym, ap, _∙_}
 use Prim.Native.Nat.{_+_}
 use native.Mathlib.Omega.{arith}
-use lib.ListN.{length, getD, set, drop}
+use lib.ListN.{getD, set, drop}
 use Rattle.std.proofs.shelf.Lists.{at-drop-more, at-drop-all, set-past}
 use Rattle.patch.specs.Output.{laid}
 use Rattle.patch.proofs.text.put_text.Needs.{then-end-out, else-end-out}

@@ -1,7 +1,7 @@
 use mathlib.Core.Path.{sym, ap, _∙_}
 use native.Mathlib.Omega.{arith}
 use Rattle.std.proofs.shelf.Lists.{getD-past}
-use Rattle.patch.specs.Entries.{meant}
+use Rattle.patch.specs.Judging.{meant}
 use Rattle.patch.specs.Orders.{listed}
 use Rattle.patch.specs.Records.{records, filler}
 use Rattle.patch.specs.Windows.{seen}
