@@ -11,6 +11,7 @@ pub fn script() -> Vec<String> {
     let mut text = |block: &str| lines.extend(block.lines().map(str::to_string));
     text(OPENING);
     text(WORKED);
+    text(TRAPS);
     text(VALUES);
     text(REFUSED_CALLS);
     text(FAULTS);
@@ -172,6 +173,31 @@ open gates 0 1 strips 512
 cells 15
 open accents 1 0 strips 600
 cells 15
+";
+
+const TRAPS: &str = "
+# Cells that are independent, yet more than the rule needs: x0, x0 x1 and x1 for x0 + x0 x1
+open gates 0 1
+load 0 0101000001000000010000000301000103020101030300010400020104000301
+cells 0
+list 0
+# On minus off: 1 where input 0 is 0, and 3 where it is 1
+open accents 0
+load 0 01000000020100010301000304000101
+list 0
+sound 0 0
+sound 0 1
+# Two rules that part only where all inputs are 1
+open gates 0 1 2
+load 0 0102000001010000010000000301000103020101030302010400030104000001
+load 1 04000001
+same 0 1
+tie 2 0 0 0
+same 2 1
+sound 0 7
+sound 1 7
+sound 0 3
+sound 1 3
 ";
 
 const WORKED: &str = "
