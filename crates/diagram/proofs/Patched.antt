@@ -15,7 +15,7 @@ use Rattle.linear.proofs.Ring.{one-times, zero-times}
 use Rattle.patch.specs.Faults.{position, Order, Later, Patch}
 use Rattle.patch.specs.Paths.{bit as bit-of, on-from, off-from, path-sum, product, total, rule as rule-of}
 use Rattle.patch.specs.Records.{records, declared, nth, reads, cells-of}
-use Rattle.patch.specs.Rulebook.{made}
+use Rattle.patch.specs.Settings.{made}
 use Rattle.patch.specs.Values.{sent, off-to, dif-to, out-to}
 use Rattle.patch.proofs.Bits.{any-inputs, same-paths, made-bit, made-bits}
 use Rattle.patch.proofs.Facts.{Facts, facts}

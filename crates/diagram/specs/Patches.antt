@@ -12,7 +12,7 @@ use Rattle.patch.specs.Encoding.{encode}
 use Rattle.patch.specs.Faults.{position, Order, Patch}
 use Rattle.patch.specs.Paths.{bit as bit-of, path-sum, rule as rule-of}
 use Rattle.patch.specs.Records.{records, reads, cells-of}
-use Rattle.patch.specs.Rulebook.{made}
+use Rattle.patch.specs.Settings.{made}
 use Rattle.patch.specs.Settled.{Kept, Settled}
 use Rattle.patch.specs.Values.{off-to, dif-to, out-to}
 use Rattle.diagram.specs.Canonical.{Echelon, CanonicalCells, Canonical, Local}

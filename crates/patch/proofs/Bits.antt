@@ -16,7 +16,7 @@ use Rattle.linear.proofs.Codes.{fold-cong}
 use Rattle.patch.specs.Records.{Record, records, declared, nth, reads, cells-of}
 use Rattle.patch.specs.Faults.{Order, Patch}
 use Rattle.patch.specs.Paths.{bit, target, on-from, off-from, opens, starts, walks, paths, product, total, path-sum, rule}
-use Rattle.patch.specs.Rulebook.{made}
+use Rattle.patch.specs.Settings.{made}
 use Rattle.patch.specs.Settled.{Same-rule}
 use Rattle.patch.proofs.Facts.{Facts, facts}
 use Rattle.patch.proofs.Values.{target-known, cond-when}

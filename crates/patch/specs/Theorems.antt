@@ -13,7 +13,7 @@ use Rattle.patch.specs.Records.{read, records, declare, declared, nth, reads, 
 use Rattle.patch.specs.Faults.{position, Order, Bytes, Later, Patch, First, fault, check-patch, passed, refused}
 use Rattle.patch.specs.Paths.{IsPath, paths, Among, Distinct, path-sum, starts, bit, rule}
 use Rattle.patch.specs.Encoding.{encode, Echelon-numbers, Row-values}
-use Rattle.patch.specs.Rulebook.{Press, Answer, Pages, Rack, Refused, Answers, One-settled, no-entry, made, Agree, asked, Cause, Enters, Run}
+use Rattle.patch.specs.Settings.{made}
 use Rattle.patch.specs.Settled.{Same-rule, Kept}
 use Rattle.patch.specs.Values.{flow, Values, off-to, dif-to, out-to, along, Solves, number-of-ones}
 
@@ -124,20 +124,3 @@ abbrev pub Made : Type 0
 Made = (setting i v : ℕ) → v < 2
     → (bit (made setting i v) i ≡ eqb v 1) × ((j : ℕ) → j ≢ i → bit (made setting i v) j ≡ bit setting j)
     × ((n : ℕ) → i < n → setting < 2 ^ n → made setting i v < 2 ^ n)
-
--- A press has at most one cause of refusal.
-abbrev pub One-cause : Type 0
-One-cause = (R : Rack) (pages : Pages) (p : Press) (number place number′ place′ : ℕ) → Cause R pages p number place → Cause R pages p number′ place′
-    → (number ≡ number′) × (place ≡ place′)
-
--- The pages decide what a press that is not refused says, if a rule has at most one settled patch.
-abbrev pub One-answer : Type 0
-One-answer = (R : Rack) → One-settled R → (pages : Pages) (p : Press) (ans other : Answer) → ¬ Refused R pages p → Answers R pages p ans → Answers R pages p other → ans ≡ other
-
--- The presses decide every page, and a press that asks for no entry changes none.
-abbrev pub One-reading : Type 0
-One-reading = (R : Rack) (before after others : Pages) (ps : List Press) → Run R before ps after → Run R before ps others
-    → (slot : ℕ) → Agree R (after slot) (others slot)
-
-abbrev pub Quiet : Type 0
-Quiet = (R : Rack) (before after : Pages) (p : Press) → Enters R before p after → asked R before p ≡ no-entry → (slot : ℕ) → Agree R (after slot) (before slot)

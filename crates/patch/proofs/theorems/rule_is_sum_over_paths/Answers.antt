@@ -5,7 +5,6 @@ use Rattle.patch.specs.Records.{records, declared, nth, cells-of}
 use Rattle.patch.specs.Paths.{bit, paths, off-from, starts}
 use mathlib.Core.Path.{ap, _∙_}
 use Rattle.patch.proofs.Bits as bts
-use Rattle.patch.proofs.Book as bok
 use Rattle.patch.proofs.Checked as chk
 use Rattle.patch.proofs.Decoded as dec
 use Rattle.patch.proofs.Encoded as enc
@@ -15,28 +14,14 @@ use Rattle.patch.proofs.Tables as tab
 use Rattle.patch.proofs.Facts as fac
 use Rattle.patch.proofs.Listed as lis
 use Rattle.patch.proofs.Numbers as num
-use Rattle.patch.proofs.theorems.theorems.Needs as need
+use Rattle.patch.proofs.theorems.rule_is_sum_over_paths.Needs as need
 
 pub returns : need.returns
 returns c = record {
-  checked = chk.checks-sound;
-  length = chk.checks-length;
-  refused = chk.checks-refused;
   listed = lis.listed;
   values = λ q plus times neg inv C order bytes o p s. num.rule-by-values C order (records bytes) (fac.facts order q bytes o p) (bit s);
   exist = λ q plus times neg inv C order bytes o p s. num.has-values C order (records bytes) (fac.facts order q bytes o p) (bit s);
   diagram = λ q plus times neg inv C order bytes o p s. num.rule-by-diagram C order (records bytes) (fac.facts order q bytes o p) (bit s);
-  encodes = λ q plus times neg inv C order o k inp r out head H. (
-    enc.is-patch order q k inp r out head H o,
-    enc.keeps order q k inp r out head H,
-    ap cells-of (enc.back order q k inp r out head H) ∙ enc.count-is order q k inp r out head H,
-    λ s. row.encoded-rule C order o k inp r out head H (bit s),
-  );
-  rows = λ q plus times neg inv C order o k inp r out head H s. row.row-values C order o k inp r out head H (bit s);
-  alike = row.encode-same;
-  fours = λ bytes. (chk.records-length bytes, chk.records-nth bytes, chk.declared-take (records bytes) []);
-  passed = chk.checks-passed;
-  answer = bok.one-answer;
   vectors = λ q plus times neg inv C order bytes o p t u.
       let A = fac.facts order q bytes o p in (
         num.sent-small C order (records bytes) A (off-from t) u,
@@ -45,15 +30,9 @@ returns c = record {
         num.off-later C order (records bytes) A t u,
         num.dif-later C order (records bytes) A t u,
       );
-  tables = λ order pos some few listed placed. (tab.tables-order order pos some few listed placed, tab.position-is order pos some few listed placed);
-  decodes = dec.decoded;
-  cause = bok.one-cause;
-  inputs = bts.settings-inputs;
-  bits = λ s i v h. (bts.made-bit s i v h, bts.made-bits s i v h, bts.made-fits s i v h);
-  reading = bok.one-reading;
-  quiet = bok.quiet;
-  samples = sam.samples;
   parity = λ order bytes o p s.
       num.parity (records bytes) (λ k. num.code-small order 2 (declared [] (records bytes)) (nth (records bytes) k) (omega arith) (fac.facts order 2 bytes o p .fine k))
       (paths (records bytes) (length order) (bit s));
+  inputs = bts.settings-inputs;
+  bits = λ s i v h. (bts.made-bit s i v h, bts.made-bits s i v h, bts.made-fits s i v h);
 }

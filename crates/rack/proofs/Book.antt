@@ -10,10 +10,11 @@ use native.Mathlib.Decide.{ℕ-discrete}
 use lib.Dec.{T, eqb, ltb, leb}
 use lib.ListN.{length}
 use Rattle.std.proofs.shelf.Tests.{or-parts, leb-false, ltb-false}
 use Rattle.patch.specs.Records.{records, cells-of}
 use Rattle.patch.specs.Faults.{Verdict, passed, refused}
-use Rattle.patch.specs.Rulebook.{Press, load, lay, weigh, tie, same, cells, sound, write, Rule, Pages, Entry, no-entry, entry, entered, made, Rack, Agree, Patch-of, early, asked, Cause, at-once, too-short, too-many, Refused, Enters, Run, none, more, Answer, agree, count, wrote, Says, Answers, One-settled}
+use Rattle.rack.specs.Rulebook.{Press, load, lay, weigh, tie, same, cells, sound, write, Rule, Pages, Entry, no-entry, entry, entered, Rack, Agree, Patch-of, early, asked, Cause, at-once, too-short, too-many, Refused, Enters, Run, none, more, Answer, agree, count, wrote, Says, Answers, One-settled}
+use Rattle.patch.specs.Settings.{made}
 use Rattle.patch.proofs.Bits.{made-fits}
 
 not-passed : {n k : ℕ} → refused n k ≡ passed → ⊥
 not-passed e = let z : _≡_ {A = ℕ} 0 1 = cc in omega arith

@@ -6,10 +6,11 @@ use mathlib.Core.List.{List, [], _∷_}
 use Prim.Native.Nat.{ℕ, suc, _+_, _*_, _/_, _%_, _^_, _<_, _≤_}
 use lib.Dec.{T, eqb, ltb, leb}
 use lib.ListN.{length}
 use Rattle.patch.specs.Records.{records, cells-of}
 use Rattle.patch.specs.Faults.{Verdict, passed, refused, check-patch, Patch}
 use Rattle.patch.specs.Paths.{rule}
+use Rattle.patch.specs.Settings.{made}
 use Rattle.patch.specs.Settled.{Settled}
 
 -- The panel calls, with what a cause of refusal or an entry can depend on: of working strips and of an output, their number.
 pub data Press : Type 0 where
@@ -60,10 +61,6 @@ pub data Entry : Type 0 where
 abbrev pub entered : Pages → Entry → Pages
 entered pages no-entry slot = pages slot
 entered pages (entry to f) slot = cond (eqb slot to) f (pages slot)
-
--- the setting with bit i made v
-abbrev pub made : ℕ → ℕ → ℕ → ℕ
-made setting i v = (setting / 2 ^ suc i * 2 + v) * 2 ^ i + setting % 2 ^ i
 
 -- what a rack is opened with: its slots, its scan order, its strips' places, its scale
 pub record Rack : Type 0 where
