@@ -56,6 +56,6 @@ positions-more order inputs ps i room before j l = elim (cases-eq j (length inpu
 ]
 
 -- the records of bytes that pass the check hold codes
-pub record-code : (s : ScanOrder) (L q : ℕ) (bytes : List ℕ) → 0 < q → Admitted (listed s) L q bytes → (k : ℕ) → code (nth (records bytes) k) < q
-record-code s L q bytes z a k =
-    code-small (listed s) q (declared [] (records bytes)) (nth (records bytes) k) z (facts (listed s) q bytes (lawful s) (admitted-patch (listed s) L q bytes a) .fine k)
+pub record-code : (s : ScanOrder) (L q : ℕ) (bytes : List ℕ) → 0 < q → Admitted (listed s) L q bytes → (k : ℕ) (r : Record) → r ≡ nth (records bytes) k → code r < q
+record-code s L q bytes z a k r is =
+    rw is (code-small (listed s) q (declared [] (records bytes)) (nth (records bytes) k) z (facts (listed s) q bytes (lawful s) (admitted-patch (listed s) L q bytes a) .fine k))

@@ -21,10 +21,11 @@ use Rattle.drafting.specs.declared.plan.Plan.{Plan}
 abbrev pub Positions : List ℕ → List ℕ → List ℕ → Type 0
 Positions order inputs ps = (i : ℕ) → i < length inputs → getD ps i 0 ≡ position order (getD inputs i 0)
 
--- the place of cell f in a draft of m cells: cell 0 is the steady one, and a plan places 128 cells at most
+-- the place of cell f in a draft of m cells: cell 0 is the steady one, and so is, as a plan has room for 128 cells, any number past them
 abbrev pub spot : ℕ → List ℕ → ℕ → ℕ
 spot m place f = cond (eqb f 0 || ltb 128 f) m (getD place (f - 1) 0)
 
+-- the same, by a plan
 abbrev pub spots : Plan → ℕ → ℕ
 spots plan = spot (plan .cells) (plan .place)
 

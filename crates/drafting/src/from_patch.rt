@@ -46,7 +46,7 @@ fn cell_positions(patch: &Patch, positions: &mut [u8; 128]) -> usize
     count
 }
 
-// The place of a cell by its number, where cell 0 is the steady one.
+// The place of a cell by its number, where cell 0 is the steady one. A plan has room for 128 cells: any number past them counts as the steady one too.
 fn cell_place(plan: &Plan, cell: u8) -> usize
     ensures within { λ r. ⌜ r ≤ now (plan .entry) .cells ⌝ }
     ensures is { λ r. ⌜ r ≡ spots (now (plan .entry)) cell ⌝ }

@@ -25,12 +25,12 @@ pub add-record-requires : need.add-record-requires
 add-record-requires g c κs =
     let patch = c .args .patch .now in
     let some : 0 < patch .codes = omega (arith, c .pre .codes, some-code (g .Codes·Scale .model)) in
-    let told : code (meant (c .record .result)) ≡ code (nth (records (seen patch)) (c .loop-k .k)) = ap code (c .record .ensures) in
-    let low : code (nth (records (seen patch)) (c .loop-k .k)) < patch .codes = record-code (patch .order) (patch .places) (patch .codes) (seen patch) some (patch .admitted) (c .loop-k .k) in
+    let low : code (meant (c .record .result)) < patch .codes =
+    record-code (patch .order) (patch .places) (patch .codes) (seen patch) some (patch .admitted) (c .loop-k .k) (meant (c .record .result)) (c .record .ensures) in
     record {
       room = omega arith;
       within = c .pre .within;
-      coded = omega (arith, low, c .pre .codes, told);
+      coded = omega (arith, low, c .pre .codes);
       bounded = c .loop-k .inv .bounded;
       outlet = c .loop-k .inv .outlet;
     }
