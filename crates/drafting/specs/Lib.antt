@@ -1,3 +1,4 @@
+pub mod Arcs
 pub mod Drafts
 pub mod Meaning
 pub mod Plan

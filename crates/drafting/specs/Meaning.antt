@@ -6,8 +6,9 @@ use Prim.Native.Nat.{ℕ, _+_, _-_, _≤_}
 use native.Mathlib.Omega.{arith}
 use lib.Dec.{eqb}
 use lib.ListN.{length, getD}
-use Rattle.diagram.specs.Diagram.{Assignment, Diagram}
-use Rattle.diagram.specs.Patches.{Reading}
+use Rattle.diagram.specs.Diagram.{Assignment, Diagram, rule}
+use Rattle.diagram.specs.Patches.{Reading, patch-diagram}
+use Rattle.diagram.specs.Patches.{scalars as scalars-of}
 use Rattle.elimination.specs.Lift.{Element, scalars, Grid}
 use Rattle.patch.specs.Faults.{position, Order}
 use Rattle.patch.specs.Orders.{listed}
@@ -31,6 +32,10 @@ reading M s = record {
   order = listed s;
   ordered = lawful s;
 }
+
+-- the rule of a patch, over the positions of a scan order
+abbrev pub patch-rule : (M : ScaleModel) → ScanOrder → List ℕ → Assignment → Element M
+patch-rule M s bytes = rule (scalars-of (reading M s)) (length (listed s)) (patch-diagram (reading M s) bytes)
 
 -- the draft means a diagram over n positions that is well formed and has the rule f
 pub record Drafts (M : ScaleModel) {S : Type 0} (code : S → Row) (work : List S) (d : Draft S) (n : ℕ) (f : Assignment → Element M) : Type 0 where

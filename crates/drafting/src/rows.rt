@@ -4,7 +4,7 @@ ghost use Prim.Native.Nat.{ℕ, _+_, _<_, _≤_};
 ghost use lib.ListN.{length};
 ghost use Rattle.drafting.specs.Drafts.{AddedAt, AddedIn, Ends};
 ghost use Rattle.elimination.specs.Rows.{Rows, Outside};
-ghost use Rattle.settling.specs.Draft.{Bounded};
+ghost use Rattle.settling.specs.Draft.{Bounded, Beyond};
 ghost use Rattle.strip.specs.Row.{zeros};
 use crate::plan::Plan;
 use elimination::reduced_form::wipe;
@@ -64,6 +64,7 @@ pub fn clear_rows<S: Strip>(work: &mut [S], m: usize)
     ensures off { λ _. ⌜ ((h : ℕ) → h ≤ m → Rows code (now (work .exit)) 0 h ≡ zeros) ⌝ }
     ensures dif { λ _. ⌜ ((h : ℕ) → h ≤ m → Rows code (now (work .exit)) 128 h ≡ zeros) ⌝ }
     ensures bounded { λ _. ⌜ Bounded code (now (work .exit)) m ⌝ }
+    ensures beyond { λ _. ⌜ Beyond code (now (work .entry)) (now (work .exit)) ⌝ }
 {
     wipe(work, OFF, m + 1);
     wipe(work, DIF, m + 1);
