@@ -1,7 +1,12 @@
 pub mod Adding
 pub mod Bounding
+pub mod Copying
 pub mod Declaring
 pub mod Entering
+pub mod Laying
+pub mod Moving
 pub mod Patching
 pub mod Planning
+pub mod Positions
 pub mod Summing
+pub mod Tied

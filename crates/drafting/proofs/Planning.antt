@@ -78,6 +78,9 @@ none-alike ps p = refl
 done-less : (ps : List ℕ) (p c i : ℕ) → Done ps p (c + 1) i → i ≢ c → Done ps p c i
 done-less ps p c i d ne = elim d [ inl l ↦ inl l | inr e ↦ inr (e .0, (let h = e .1 in omega arith)) ]
 
+done-more : (ps : List ℕ) (p c i : ℕ) → Done ps p c i → Done ps p (c + 1) i
+done-more ps p c i d = elim d [ inl l ↦ inl l | inr e ↦ inr (e .0, (let h = e .1 in omega arith)) ]
+
 module _ (ps : List ℕ) (k n p c m : ℕ) (pos place : List ℕ) (S : Placing ps k n p c m pos place) where
   -- the cell c is of another position
   pub passed : getD ps c 0 ≢ p → Placing ps k n p (c + 1) m pos place
@@ -91,8 +94,12 @@ module _ (ps : List ℕ) (k n p c m : ℕ) (pos place : List ℕ) (S : Placing p
     last = S .last;
     fresh = λ z. absurd (omega arith);
     rest = S .rest;
+    onto = λ t l. more t (S .onto t l);
   }
     where
+      more : (t : ℕ) → (i : ℕ) × (i < k) × Done ps p c i × (getD place i 0 ≡ t) → (i : ℕ) × (i < k) × Done ps p (c + 1) i × (getD place i 0 ≡ t)
+      more t (i, li, d, s) = (i, li, done-more ps p c i d, s)
+
       less : (i : ℕ) → Done ps p (c + 1) i → Done ps p c i
       less i d = elim d [ inl l ↦ inl l | inr e ↦ inr (e .0, elim (cases-eq i c) [ inl s ↦ absurd (ne (ap (λ x. getD ps x 0) (sym s) ∙ e .0)) | inr s ↦ (let h = e .1 in omega arith) ]) ]
 
@@ -135,6 +142,10 @@ module _ (ps : List ℕ) (k n p c m : ℕ) (pos place : List ℕ) (S : Placing p
     last = λ t b. elim (cases-eq t m) [ inl s ↦ omega (arith, new t s) | inr s ↦ omega (arith, old t s, S .last t (omega arith)) ];
     fresh = λ z. absurd (omega arith);
     rest = λ t a b. old t (λ y. omega arith) ∙ S .rest t (omega arith) b;
+    onto = λ t b. elim (cases-eq t m) [
+      | inl s ↦ (c, l, inr (e, (omega arith)), here c refl ∙ sym s)
+      | inr s ↦ more t (S .onto t (omega arith))
+    ];
   }
     where
       inside-m : m < length pos
@@ -152,6 +163,13 @@ module _ (ps : List ℕ) (k n p c m : ℕ) (pos place : List ℕ) (S : Placing p
       old : (t : ℕ) → t ≢ m → getD (set pos m p) t 0 ≡ getD pos t 0
       old t s = getD-set-other pos m t p 0 s
 
+      -- the cell c was not placed before
+      other : (i : ℕ) → Done ps p c i → i ≢ c
+      other i d s = elim d [ inl h ↦ omega (arith, e, ap (λ x. getD ps x 0) s) | inr h ↦ (let a = h .1 in omega arith) ]
+
+      more : (t : ℕ) → (i : ℕ) × (i < k) × Done ps p c i × (getD place i 0 ≡ t) → (i : ℕ) × (i < k) × Done ps p (c + 1) i × (getD (set place c m) i 0 ≡ t)
+      more t (i, li, d, s) = (i, li, done-more ps p c i d, there i (other i d) ∙ s)
+
 -- a position is through
 pub next-position : (ps : List ℕ) (k n p m : ℕ) (pos place : List ℕ) → Placing ps k n p k m pos place → Placing ps k n (p + 1) 0 m pos place
 next-position ps k n p m pos place S = record {
@@ -164,8 +182,12 @@ next-position ps k n p m pos place S = record {
   last = λ t l. omega (arith, S .last t l);
   fresh = λ z t l. omega (arith, S .last t l);
   rest = S .rest;
+  onto = λ t l. forth t (S .onto t l);
 }
   where
+    forth : (t : ℕ) → (i : ℕ) × (i < k) × Done ps p k i × (getD place i 0 ≡ t) → (i : ℕ) × (i < k) × Done ps (p + 1) 0 i × (getD place i 0 ≡ t)
+    forth t (i, li, d, s) = (i, li, elim d [ inl h ↦ inl (omega arith) | inr h ↦ inl (let a = h .0 in omega arith) ], s)
+
     back : (i : ℕ) → i < k → Done ps (p + 1) 0 i → Done ps p k i
     back i l d = elim d [
       | inl h ↦ elim (cases-eq (getD ps i 0) p) [ inl e ↦ inr (e, l) | inr e ↦ inl (omega arith) ]
@@ -190,8 +212,12 @@ finished ps k n m pos place few S = record {
     ]
     | inr s ↦ S .rising t u a (omega arith)
   ];
+  onto = λ t l. found t (S .onto t l);
 }
   where
+    found : (t : ℕ) → (i : ℕ) × (i < k) × Done ps n 0 i × (getD place i 0 ≡ t) → (i : ℕ) × (i < k) × (getD ps i 0 < n) × (getD place i 0 ≡ t)
+    found t (i, li, d, s) = (i, li, elim d [ inl h ↦ h | inr h ↦ absurd (let a = h .1 in omega arith) ], s)
+
     few-are : m ≤ k
     few-are = omega (arith, S .number, none-alike ps n, at-most ps n k)
 
@@ -220,6 +246,7 @@ started ps k n = record {
   last = λ t l. absurd (omega arith);
   fresh = λ z t l. absurd (omega arith);
   rest = λ t a b. repeated n 128 t b;
+  onto = λ t l. absurd (omega arith);
 }
   where
     not-done : (i : ℕ) → Done ps 0 0 i → ⊥

@@ -1,4 +1,5 @@
 pub mod Arcs
 pub mod Drafts
+pub mod Forms
 pub mod Meaning
 pub mod Plan

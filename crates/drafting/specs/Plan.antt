@@ -19,6 +19,7 @@ pub record Placed (ps : List ℕ) (k n m : ℕ) (pos place : List ℕ) : Type 0 
   pub steady : getD pos m 0 ≡ n
   pub cells : (t : ℕ) → t < m → getD pos t 0 < n
   pub rising : (t u : ℕ) → t ≤ u → u ≤ m → getD pos t 0 ≤ getD pos u 0
+  pub onto : (t : ℕ) → t < m → (i : ℕ) × (i < k) × (getD ps i 0 < n) × (getD place i 0 ≡ t)
 
 -- The same while it is made: the cells of positions below p are placed, and the first c of the cells, if their position is p.
 unfoldable pub earlier : List ℕ → ℕ → ℕ → ℕ
@@ -42,3 +43,4 @@ pub record Placing (ps : List ℕ) (k n p c m : ℕ) (pos place : List ℕ) : Ty
   pub last : (t : ℕ) → t < m → getD pos t 0 ≤ p
   pub fresh : c ≡ 0 → (t : ℕ) → t < m → getD pos t 0 < p
   pub rest : (t : ℕ) → m ≤ t → t < 128 → getD pos t 0 ≡ n
+  pub onto : (t : ℕ) → t < m → (i : ℕ) × (i < k) × Done ps p c i × (getD place i 0 ≡ t)

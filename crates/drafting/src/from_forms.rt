@@ -4,7 +4,11 @@ ghost use Prim.Native.Nat.{ℕ, _+_, _<_, _≤_};
 ghost use denote.Ref.{now as held};
 ghost use lib.ListN.{length};
 ghost use Rattle.drafting.specs.Drafts.{Ends};
-ghost use Rattle.settling.specs.Draft.{Ordered, Bounded};
+ghost use Rattle.drafting.specs.Forms.{Positioned, Copied, Every, Free, Held};
+ghost use Rattle.drafting.specs.Meaning.{Drafts-sum, Drafts-tied};
+ghost use Rattle.elimination.specs.Rows.{Outside};
+ghost use Rattle.patch.specs.Orders.{listed};
+ghost use Rattle.settling.specs.Draft.{Ordered, Bounded, Beyond};
 use crate::form::FormView;
 use crate::plan::Plan;
 use crate::plan::place_cells;
@@ -29,6 +33,7 @@ fn form_positions(
 )
     requires few { ⌜ count ≤ 31 ⌝ }
     requires room { ⌜ from + count ≤ 128 ⌝ }
+    ensures { λ _. ⌜ Positioned (listed (now (order .entry))) (now (inputs .entry)) count from (now (positions .entry)) (now (positions .exit)) ⌝ }
 {
     for j in 0..count {
         positions[from + j] = order.position(inputs[j]);
@@ -42,7 +47,9 @@ fn copy_cells<S: Strip>(work: &mut [S], plan: &Plan, form: &FormView<S>, from: u
     requires strips { ⌜ now form .base + 32 ≤ length (held (now form .strips)) ⌝ }
     requires cells { ⌜ from + now form .count ≤ 127 ⌝ }
     requires bounded { ⌜ Bounded code (now work) (now plan .cells) ⌝ }
-    ensures { λ _. ⌜ Bounded code (now (work .exit)) (now (plan .entry) .cells) ⌝ }
+    ensures bounded { λ _. ⌜ Bounded code (now (work .exit)) (now (plan .entry) .cells) ⌝ }
+    ensures dif { λ _. ⌜ Copied (Codes·Scale .model) code len (now (plan .entry)) from (now (form .entry)) 128 Every (now (form .entry) .count + 1) (now (work .entry)) (now (work .exit)) ⌝ }
+    ensures outside { λ _. ⌜ Outside code (now (work .entry)) 128 128 (now (work .exit)) ⌝ }
 {
     for j in 1..form.count + 1 {
         let row = moved(&form.strips[form.base + j], form.count, plan, from);
@@ -67,6 +74,8 @@ pub fn draft_sum<S: Strip>(
     ensures order { λ r. ⌜ Ordered (r .cells) (r .pos) ⌝ }
     ensures bounded { λ r. ⌜ Bounded code (now (work .exit)) (r .cells) ⌝ }
     ensures outlet { λ r. ⌜ Ends (r .cells) (code (r .out)) ⌝ }
+    ensures beyond { λ _. ⌜ Beyond code (now (work .entry)) (now (work .exit)) ⌝ }
+    ensures means { λ r. ⌜ Drafts-sum (Codes·Scale .model) code (now (order .entry)) (now (a .entry)) c (now (b .entry)) (now (work .exit)) r ⌝ }
 {
     let mut positions = [0; 128];
     form_positions(a.inputs, a.count, order, 0, &mut positions);
@@ -91,7 +100,10 @@ fn copy_tied<S: Strip>(work: &mut [S], plan: &Plan, form: &FormView<S>, input: u
     requires few { ⌜ now form .count ≤ 31 ⌝ }
     requires strips { ⌜ now form .base + 32 ≤ length (held (now form .strips)) ⌝ }
     requires bounded { ⌜ Bounded code (now work) (now plan .cells) ⌝ }
-    ensures { λ _. ⌜ Bounded code (now (work .exit)) (now (plan .entry) .cells) ⌝ }
+    ensures bounded { λ _. ⌜ Bounded code (now (work .exit)) (now (plan .entry) .cells) ⌝ }
+    ensures dif { λ _. ⌜ Copied (Codes·Scale .model) code len (now (plan .entry)) 0 (now (form .entry)) 128 (Free (now (form .entry)) input) (now (form .entry) .count + 1) (now (work .entry)) (now (work .exit)) ⌝ }
+    ensures off { λ _. ⌜ Copied (Codes·Scale .model) code len (now (plan .entry)) 0 (now (form .entry)) 0 (Held (now (form .entry)) input on) (now (form .entry) .count + 1) (now (work .entry)) (now (work .exit)) ⌝ }
+    ensures outside { λ _. ⌜ Outside code (now (work .entry)) 0 256 (now (work .exit)) ⌝ }
 {
     for j in 1..form.count + 1 {
         let row = moved(&form.strips[form.base + j], form.count, plan, 0);
@@ -119,6 +131,8 @@ pub fn draft_tied<S: Strip>(
     ensures order { λ r. ⌜ Ordered (r .cells) (r .pos) ⌝ }
     ensures bounded { λ r. ⌜ Bounded code (now (work .exit)) (r .cells) ⌝ }
     ensures outlet { λ r. ⌜ Ends (r .cells) (code (r .out)) ⌝ }
+    ensures beyond { λ _. ⌜ Beyond code (now (work .entry)) (now (work .exit)) ⌝ }
+    ensures means { λ r. ⌜ Drafts-tied (Codes·Scale .model) code (now (order .entry)) (now (form .entry)) input on (now (work .exit)) r ⌝ }
 {
     let mut positions = [0; 128];
     form_positions(form.inputs, form.count, order, 0, &mut positions);

@@ -7,7 +7,7 @@ ghost use Rattle.drafting.specs.Arcs.{Positions, spots, Entered, Summed};
 ghost use Rattle.drafting.specs.Drafts.{Ends};
 ghost use Rattle.drafting.specs.Meaning.{Drafts, patch-rule};
 ghost use Rattle.elimination.specs.Rows.{Rows};
-ghost use Rattle.patch.specs.Entries.{meant};
+ghost use Rattle.patch.specs.Judging.{meant};
 ghost use Rattle.patch.specs.Orders.{listed};
 ghost use Rattle.patch.specs.Paths.{code as code-of};
 ghost use Rattle.patch.specs.Records.{records, declared, cells-of};

@@ -3,6 +3,7 @@ ghost use mathlib.Core.Path.{_≡_};
 ghost use Prim.Native.Nat.{ℕ, _+_, _<_, _≤_};
 ghost use lib.ListN.{length};
 ghost use Rattle.drafting.specs.Drafts.{AddedAt, AddedIn, Ends};
+ghost use Rattle.drafting.specs.Forms.{place-of, Moved};
 ghost use Rattle.elimination.specs.Rows.{Rows, Outside};
 ghost use Rattle.settling.specs.Draft.{Bounded, Beyond};
 ghost use Rattle.strip.specs.Row.{zeros};
@@ -36,7 +37,8 @@ pub fn add_in<S: Strip>(work: &mut [S], base: usize, h: usize, place: usize, c: 
 // The place that the plan gives to the place t of a form, whose cells are those of the plan from `from` on.
 pub fn form_place(plan: &Plan, from: usize, t: usize) -> usize
     requires few { ⌜ from + t ≤ 128 ⌝ }
-    ensures { λ r. ⌜ r ≤ now (plan .entry) .cells ⌝ }
+    ensures is { λ r. ⌜ r ≡ place-of (now (plan .entry)) from t ⌝ }
+    ensures within { λ r. ⌜ r ≤ now (plan .entry) .cells ⌝ }
 {
     if t == 0 {
         plan.cells
@@ -48,7 +50,8 @@ pub fn form_place(plan: &Plan, from: usize, t: usize) -> usize
 // A row over the places of a form, over the places of the plan.
 pub fn moved<S: Strip>(row: &S, count: usize, plan: &Plan, from: usize) -> S
     requires few { ⌜ from + count ≤ 127 ⌝ }
-    ensures { λ r. ⌜ Ends (now (plan .entry) .cells) (code r) ⌝ }
+    ensures ends { λ r. ⌜ Ends (now (plan .entry) .cells) (code r) ⌝ }
+    ensures row { λ r. ⌜ (now (plan .entry) .cells < len → Moved (Codes·Scale .model) count (place-of (now (plan .entry)) from) (code (now (row .entry))) (code r)) ⌝ }
 {
     let mut v = S::blank();
     for t in 0..count + 1 {

@@ -1,7 +1,7 @@
 use mathlib.Core.Path.{_≡_, sym, ap, subst, _∙_}
 use Prim.Native.Nat.{ℕ, _<_, _≤_}
 use native.Mathlib.Omega.{arith}
-use Rattle.patch.specs.Entries.{meant}
+use Rattle.patch.specs.Judging.{meant}
 use Rattle.patch.specs.Records.{Record}
 use Rattle.drafting.specs.Arcs.{spots, Entered}
 use Rattle.drafting.proofs.Bounding.{dif-added, off-added}

@@ -3,7 +3,7 @@ use Prim.Native.Nat.{ℕ, _<_}
 use native.Mathlib.Omega.{arith}
 use lib.ListN.{length}
 use Rattle.elimination.specs.Lift.{some-code}
-use Rattle.patch.specs.Entries.{meant}
+use Rattle.patch.specs.Judging.{meant}
 use Rattle.patch.specs.Paths.{code}
 use Rattle.patch.specs.Records.{Record, records, nth}
 use Rattle.patch.specs.Windows.{seen}
