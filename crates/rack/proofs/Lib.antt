@@ -1,3 +1,5 @@
+pub mod Describing
 pub mod Filling
 pub mod Slots
+pub mod Sounding
 pub mod Writing
