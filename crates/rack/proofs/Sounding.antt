@@ -26,18 +26,16 @@ use Rattle.elimination.proofs.Lifting.{up-zero, up-one, up-plus, up-times}
 use Rattle.linear.specs.Codes.{Code}
 use Rattle.linear.specs.Field.{Field}
 use Rattle.linear.specs.Sums.{fold, sum}
-use Rattle.linear.proofs.Codes.{coded-number}
 use Rattle.linear.proofs.Ring.{zero-times}
 use Rattle.linear.proofs.Sums.{sum-cong}
 use Rattle.patch.specs.declared.order.ScanOrder.{ScanOrder}
-use Rattle.patch.specs.Faults.{position}
 use Rattle.patch.specs.Orders.{listed}
 use Rattle.patch.specs.Paths.{bit}
-use Rattle.patch.proofs.Orders.{lawful, listed-length, position-high}
 use Rattle.scale.specs.Model.{ScaleModel, at-codes}
 use Rattle.strip.specs.Row.{Row}
 use Rattle.rack.specs.Forms.{cell-input}
 use Rattle.rack.specs.Sounding.{weighed-up, Valued, Sounds}
+use Rattle.rack.proofs.Meaning.{up-number, input-is}
 use Rattle.rack.proofs.Writing.{fold-more}
 
 -- one term more of a sum of products
@@ -90,10 +88,6 @@ module _ (M : ScaleModel) where
       ];
     }
 
-  up-number : (r : ℕ) → r < M .q → up M r .0 ≡ r
-  unfolding up
-  up-number r h = coded-number (some-code M) r h
-
   -- two solutions of the equations of a form's values are the same
   same-values : (k : ℕ) (x : ℕ → Bool) (row : ℕ → ℕ → Element M) (V W : ℕ → Element M) → V 0 ≡ W 0
       → ((j : ℕ) → 0 < j → j ≤ k → V j ≡ cond (x j) (sum (scalars M) j (λ t. scalars M .times (row j t) (V t))) (scalars M .zero))
@@ -120,23 +114,13 @@ module _ (M : ScaleModel) where
     abbrev a : Assignment
     a = reads-as (reading M order) setting
 
-    position-is : (j : ℕ) → 0 < j → D .pos j ≡ position (listed order) (cell-input inputs j)
-    position-is j z = cond-false _ _ _ (ne-eqb j 0 (λ e. omega arith))
-
     module _ (ech : Echelon F n D) where
-      -- a cell's position reads its input
-      input-is : (j : ℕ) → 0 < j → j ≤ count → getD (listed order) (D .pos j) 0 ≡ cell-input inputs j
-      input-is j z h = elim (decLt (cell-input inputs j) n) [
-        | yes l ↦ ap (λ p. getD (listed order) p 0) (position-is j z) ∙ lawful order .there (cell-input inputs j) l
-        | no l ↦ absurd (omega (arith, position-high order (cell-input inputs j) (omega (arith, listed-length order)), position-is j z, ech .cells j z (omega arith), listed-length order))
-      ]
-
       cell-is : (j : ℕ) → 0 < j → j ≤ count
           → val F n D j a ≡ cond (bit setting (cell-input inputs j)) (sum F j (λ t. F .times (up M (Rows code strips base j t)) (val F n D t a))) (F .zero)
       cell-is j z h =
           let l : j < count + 1 = omega arith in
           cell-val F n D ech j l (ech .cells j z l) a ∙ bit-times F (a (D .pos j)) _
-          ∙ ap₂ (λ (b : Bool) (y : Element M). cond b y (F .zero)) (ap (bit setting) (input-is j z h))
+          ∙ ap₂ (λ (b : Bool) (y : Element M). cond b y (F .zero)) (ap (bit setting) (input-is M code strips base count inputs order (ech .cells) j z h))
           (sum-cut F j (count + 1) (λ u. F .times (D .dif j u) (val F n D u a)) (omega arith) (
           λ u k r. ap (λ y. F .times y (val F n D u a)) (ech .dif-later j u l r (ech .falling j u k r)) ∙ zero-times F (val F n D u a)))
 
@@ -151,6 +135,6 @@ module _ (M : ScaleModel) where
       pub sounds-as : (values : List ℕ) (r : ℕ) → Valued M (Rows code strips base) count inputs setting values → r < M .q
           → up M r ≡ weighed-up M (Rows code strips base 0) (count + 1) values → r ≡ at-settings (reading M order) (rule F n D) setting
       sounds-as values r v l e =
-          sym (up-number r l)
+          sym (up-number M r l)
           ∙ ap (λ (c : Element M). c .0) (
           e ∙ sum-cong F (count + 1) _ _ (λ t h. ap (F .times (up M (Rows code strips base 0 t))) (values-are values v t (omega arith))))
