@@ -1,2 +1,6 @@
 pub mod Book
+pub mod Describing
+pub mod Forms
+pub mod Keeping
 pub mod Rulebook
+pub mod Sounding

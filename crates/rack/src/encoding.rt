@@ -2,7 +2,10 @@
 ghost use mathlib.Core.Path.{_≡_};
 ghost use Prim.Native.Nat.{ℕ, _+_, _*_, _<_, _≤_};
 ghost use denote.Ref.{now as held};
-ghost use lib.ListN.{length};
+ghost use lib.ListN.{length, take};
+ghost use Rattle.elimination.specs.Rows.{Rows};
+ghost use Rattle.patch.specs.Output.{Put};
+ghost use Rattle.rack.specs.Forms.{form-bytes, cell-bytes, arc-bytes, row-bytes};
 use drafting::FormView;
 use strip::Strip;
 
@@ -10,21 +13,23 @@ use strip::Strip;
 pub const ENCODED_ROOM: usize = 4096;
 
 // Writes four bytes at a place, and answers the place behind them.
-fn put_record(out: &mut [u8; 4096], at: usize, record: [u8; 4]) -> usize
+fn put_record(out: &mut [u8; 4096], at: usize, four: [u8; 4]) -> usize
     requires room { ⌜ at + 4 ≤ 4096 ⌝ }
-    ensures { λ r. ⌜ r ≡ at + 4 ⌝ }
+    ensures next { λ r. ⌜ r ≡ at + 4 ⌝ }
+    ensures puts { λ r. ⌜ Put (now (out .entry)) at four (now (out .exit)) r ⌝ }
 {
-    out[at] = record[0];
-    out[at + 1] = record[1];
-    out[at + 2] = record[2];
-    out[at + 3] = record[3];
+    out[at] = four[0];
+    out[at + 1] = four[1];
+    out[at + 2] = four[2];
+    out[at + 3] = four[3];
     at + 4
 }
 
 // Writes a cell record for each cell.
 fn put_cells(inputs: &[u8; 31], count: usize, out: &mut [u8; 4096]) -> usize
     requires few { ⌜ count ≤ 31 ⌝ }
-    ensures { λ r. ⌜ r ≤ 4 * count ⌝ }
+    ensures most { λ r. ⌜ r ≤ 4 * count ⌝ }
+    ensures puts { λ r. ⌜ Put (now (out .entry)) 0 (cell-bytes (now (inputs .entry)) count) (now (out .exit)) r ⌝ }
 {
     let mut at = 0;
     for k in 0..count {
@@ -44,7 +49,8 @@ fn put_arcs<S: Strip>(
 ) -> usize
     requires few { ⌜ places ≤ 32 ⌝ }
     requires room { ⌜ start + 4 * places ≤ 4096 ⌝ }
-    ensures { λ r. ⌜ r ≤ start + 4 * places ⌝ }
+    ensures most { λ r. ⌜ r ≤ start + 4 * places ⌝ }
+    ensures puts { λ r. ⌜ Put (now (out .entry)) start (arc-bytes mark from (code (now (row .entry))) places) (now (out .exit)) r ⌝ }
 {
     let mut at = start;
     for t in 0..places {
@@ -61,7 +67,8 @@ fn put_rows<S: Strip>(form: &FormView<S>, out: &mut [u8; 4096], start: usize) ->
     requires few { ⌜ now form .count ≤ 31 ⌝ }
     requires strips { ⌜ now form .base + 32 ≤ length (held (now form .strips)) ⌝ }
     requires room { ⌜ start ≤ 124 ⌝ }
-    ensures { λ r. ⌜ r ≤ 3968 ⌝ }
+    ensures most { λ r. ⌜ r ≤ 3968 ⌝ }
+    ensures puts { λ r. ⌜ Put (now (out .entry)) start (row-bytes (Rows code (held (now (form .entry) .strips)) (now (form .entry) .base)) (now (form .entry) .count)) (now (out .exit)) r ⌝ }
 {
     let mut at = start;
     for k in 1..form.count + 1 {
@@ -74,7 +81,9 @@ fn put_rows<S: Strip>(form: &FormView<S>, out: &mut [u8; 4096], start: usize) ->
 pub fn encode<S: Strip>(form: &FormView<S>, out: &mut [u8; 4096]) -> usize
     requires few { ⌜ now form .count ≤ 31 ⌝ }
     requires strips { ⌜ now form .base + 32 ≤ length (held (now form .strips)) ⌝ }
-    ensures { λ r. ⌜ r ≤ 4096 ⌝ }
+    ensures most { λ r. ⌜ r ≤ 4096 ⌝ }
+    ensures long { λ r. ⌜ r ≡ length (form-bytes code (held (now (form .entry) .strips)) (now (form .entry) .base) (now (form .entry) .count) (held (now (form .entry) .inputs))) ⌝ }
+    ensures bytes { λ r. ⌜ take r (now (out .exit)) ≡ form-bytes code (held (now (form .entry) .strips)) (now (form .entry) .base) (now (form .entry) .count) (held (now (form .entry) .inputs)) ⌝ }
 {
     let cells = put_cells(form.inputs, form.count, out);
     let rows = put_rows(form, out, cells);

@@ -1,9 +1,11 @@
 // The panel calls: load, lay, weigh, tie, same, cells, sound, write.
 ghost use mathlib.Core.Path.{_≡_};
 ghost use Prim.Native.Nat.{ℕ, _+_, _*_, _<_, _≤_};
-ghost use lib.Dec.{ltb};
+ghost use lib.Dec.{T, ltb};
 ghost use lib.ListN.{length, getD};
 ghost use mathlib.Core.Bool.{cond};
+ghost use Rattle.patch.specs.Orders.{listed};
+ghost use Rattle.rack.specs.Describing.{noted-input, Begin-alike, Rows-alike};
 ghost use Rattle.settling.specs.Settling.{Sound};
 ghost use Rattle.std.specs.Results.{Cases};
 use super::Desk;
@@ -50,7 +52,8 @@ fn descriptor(desk: &Desk, s: usize) -> Slot
 // Describes a settled form in a slot: its number of cells, and their inputs in the scan order.
 fn describe<S: Strip>(slot: &mut Slot, form: &Form<S>, order: &ScanOrder)
     requires few { ⌜ now form .cells ≤ 31 ⌝ }
-    ensures { λ _. ⌜ now (slot .exit) .count ≡ now (form .entry) .cells ⌝ }
+    ensures count { λ _. ⌜ now (slot .exit) .count ≡ now (form .entry) .cells ⌝ }
+    ensures inputs { λ _. ⌜ ((k : ℕ) → getD (now (slot .exit) .inputs) k 0 ≡ noted-input (listed (now (order .entry))) (now (form .entry) .cells) (now (form .entry) .pos) k) ⌝ }
 {
     let mut inputs = [0; 31];
     for k in 0..form.cells {
@@ -75,6 +78,8 @@ fn settled<S: Strip>(work: &mut [S], draft: &mut Draft<S>) -> Result<Form<S>, Re
 // Whether two lists of inputs begin alike.
 fn same_inputs(a: &[u8; 31], b: &[u8; 31], count: usize) -> bool
     requires few { ⌜ count ≤ 31 ⌝ }
+    ensures same { λ r. ⌜ (T r → Begin-alike (now (a .entry)) (now (b .entry)) count) ⌝ }
+    ensures all { λ r. ⌜ (Begin-alike (now (a .entry)) (now (b .entry)) count → T r) ⌝ }
 {
     for k in 0..count {
         if a[k] != b[k] {
@@ -88,6 +93,8 @@ fn same_inputs(a: &[u8; 31], b: &[u8; 31], count: usize) -> bool
 fn same_strips<S: Strip>(strips: &[S], a: usize, b: usize) -> bool
     requires first { ⌜ a + 32 ≤ length (now strips) ⌝ }
     requires second { ⌜ b + 32 ≤ length (now strips) ⌝ }
+    ensures same { λ r. ⌜ (T r → Rows-alike code (now (strips .entry)) a b 32) ⌝ }
+    ensures all { λ r. ⌜ (Rows-alike code (now (strips .entry)) a b 32 → T r) ⌝ }
 {
     for k in 0..32 {
         if !strips[a + k].equal(&strips[b + k]) {
