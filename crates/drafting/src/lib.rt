@@ -4,6 +4,7 @@
 pub mod form;
 pub mod from_forms;
 pub mod from_patch;
+pub mod limits;
 pub mod plan;
 pub mod rows;
 
