@@ -15,6 +15,8 @@ use patch::ScanOrder;
 use rack::Answer;
 use rack::Press;
 use rack::Rack;
+use rack::encoding::ENCODED_ROOM;
+use rack::hold::STRIPS;
 use rack::play;
 use std::alloc::AllocError;
 use std::alloc::Global;
@@ -54,9 +56,6 @@ pub struct Panel {
 
 // The most strips that are made for a rack: no call reaches further ones.
 const MOST_STRIPS: usize = 1024;
-
-// The working strips of a call.
-const WORK: usize = 512;
 
 // Answers the entries in order, each press by its answer.
 fn push_entries<S: Strip>(
@@ -107,7 +106,7 @@ fn play_on<S: Strip>(
     text: &mut Vec<u8>,
 ) -> Result<(), AllocError> {
     let mut strips = blank_strips::<S>(heap, opened.strips.min(MOST_STRIPS))?;
-    let mut work = blank_strips::<S>(heap, WORK)?;
+    let mut work = blank_strips::<S>(heap, STRIPS)?;
     let check = Rack::check(&strips);
     let answers = play(heap, &opened.order, &mut strips, &mut work, presses)?;
     push_entries::<S>(heap, text, &opened.order, check, entries, &answers)
@@ -199,9 +198,6 @@ impl Panel {
     }
 }
 
-// The bytes of an output that is long enough for every settled form.
-const ROOM: usize = 4096;
-
 // Takes one line: the panel afterwards, where text has the answers of all that came before an `open`.
 pub fn take_line(
     heap: Global,
@@ -220,7 +216,10 @@ pub fn take_line(
         Ok(Line::List(a)) => panel.press(
             heap,
             number,
-            Press::Write { a, room: ROOM },
+            Press::Write {
+                a,
+                room: ENCODED_ROOM,
+            },
             Entry::Listing,
         )?,
         Err(Stop::Fault(fault)) => panel.fault(heap, number, &fault)?,

@@ -5,6 +5,8 @@ use crate::words::hex_bytes;
 use crate::words::number;
 use crate::words::words;
 use rack::Press;
+use rack::encoding::ENCODED_ROOM;
+use rack::hold::STRIPS;
 use std::alloc::AllocError;
 use std::alloc::Global;
 use std::alloc::Refused;
@@ -62,12 +64,6 @@ pub impl<'a, T: Drop> From<Refused<T>> for Stop<'a> as StopFromRefused {
         Stop::Memory
     }
 }
-
-// The strips of a rack, and the working strips of a call, where the line names no number.
-const STRIPS: usize = 512;
-
-// The bytes of an output, where the line names no number: more than any settled form has.
-const ROOM: usize = 4096;
 
 fn a_number<'a>(word: &'a [u8]) -> Result<u64, Stop<'a>> {
     match number(word) {
@@ -199,7 +195,7 @@ fn write_line<'a>(words: &[&'a [u8]]) -> Result<Line, Stop<'a>> {
         return wrong_count();
     }
     let a = a_count(words[1])?;
-    let room = pair_number(words, b"room", ROOM)?;
+    let room = pair_number(words, b"room", ENCODED_ROOM)?;
     Ok(Line::Call(Press::Write { a, room }))
 }
 

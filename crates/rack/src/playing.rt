@@ -1,4 +1,5 @@
 // A list of presses played on a new rack: what `panel` does, and what a host can do in one call.
+use crate::encoding::ENCODED_ROOM;
 use crate::hold::Rack;
 use patch::Refusal;
 use patch::ScanOrder;
@@ -60,9 +61,6 @@ pub enum Answer {
     Refused(Refusal),
 }
 
-// The most bytes an output is given; no settled form has as many.
-const MOST_ROOM: usize = 4096;
-
 fn done(result: Result<(), Refusal>) -> Answer {
     match result {
         Ok(()) => Answer::Done,
@@ -97,7 +95,7 @@ fn wrote<S: Strip>(
     a: usize,
     room: usize,
 ) -> Result<Answer, AllocError> {
-    let mut out = vec![in heap; 0u8; room.min(MOST_ROOM)]?;
+    let mut out = vec![in heap; 0u8; room.min(ENCODED_ROOM)]?;
     match rack.write(a, &mut out) {
         Ok(n) => {
             out.truncate(n);

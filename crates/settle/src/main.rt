@@ -6,6 +6,8 @@ use patch::ScanOrder;
 use patch::listing;
 use patch::refusal_line;
 use rack::Rack;
+use rack::encoding::ENCODED_ROOM;
+use rack::hold::STRIPS;
 use scale::Scale;
 use scale::gates::GatesScale;
 use std::error::AnyError;
@@ -45,9 +47,7 @@ const SCAN_LIST: [u8; 24] = [
     23,
 ];
 
-// Room for the settled bytes, and for their listing.
-const SETTLED_ROOM: usize = 4096;
-
+// Room for the listing of every settled form.
 const LISTING_ROOM: usize = 65536;
 
 // Settles a patch, and puts the listing of its settled bytes into the text; answers the listing's length.
@@ -108,9 +108,9 @@ fn run(rt: &LibcRuntime) -> Result<(), AnyError> {
     let mut bytes = Vec::new(heap);
     let mut input = rt.stdin().take(MOST_READ);
     input.read_to_end(&mut bytes)?;
-    let mut strips = vec![in heap; StripOfGates::blank(); 512]?;
-    let mut work = vec![in heap; StripOfGates::blank(); 512]?;
-    let mut settled = vec![in heap; 0u8; SETTLED_ROOM]?;
+    let mut strips = vec![in heap; StripOfGates::blank(); STRIPS]?;
+    let mut work = vec![in heap; StripOfGates::blank(); STRIPS]?;
+    let mut settled = vec![in heap; 0u8; ENCODED_ROOM]?;
     let mut text = vec![in heap; 0u8; LISTING_ROOM]?;
     let n = answer(&bytes, &mut strips, &mut work, &mut settled, &mut text);
     let n = n.min(text.len());

@@ -1,4 +1,4 @@
-// Opening a rack, and giving its strips back.
+// Opening a rack.
 use super::Desk;
 use super::Rack;
 use super::STRIPS;
@@ -29,11 +29,5 @@ impl<'a, S: Strip> Rack<'a, S> {
             *s = S::blank();
         }
         Rack { strips, desk }
-    }
-
-    // Gives the strips back.
-    pub fn close(self) -> &'a mut [S] {
-        let Rack { strips, desk: _ } = self;
-        strips
     }
 }
