@@ -1,4 +1,7 @@
 // Elimination over strips: tables of rows in working memory, indexed by pivot, for every layout of strips.
+
+#![tactic(auto)]
+
 pub mod reduced_form;
 pub mod reducing;
 pub mod rows;

@@ -1,5 +1,7 @@
 // Settled forms in strips: how a slot keeps one, when two are the same, their bytes, and their code at a setting.
 
+#![tactic(auto)]
+
 pub mod alike;
 pub mod encoding;
 pub mod evaluate;

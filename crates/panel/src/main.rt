@@ -1,4 +1,7 @@
 // panel: reads a script of panel calls from standard input, one a line, and answers each.
+
+#![tactic(auto)]
+
 mod answers;
 mod panels;
 mod script;

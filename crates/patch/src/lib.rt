@@ -1,4 +1,7 @@
 // Patches: their records and faults, the scan order they are read in, the check that admits one, its listing.
+
+#![tactic(auto)]
+
 mod cells;
 mod check;
 mod lines;

@@ -1,5 +1,7 @@
 // The rack: sixteen slots that each keep a rule in its smallest form, and the panel calls on them.
 
+#![tactic(auto)]
+
 pub mod hold;
 pub mod playing;
 

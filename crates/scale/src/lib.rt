@@ -1,4 +1,7 @@
 // Scales: what the codes of a rule are, how they add and multiply, and how hard each is sent.
+
+#![tactic(auto)]
+
 ghost use Rattle.std.specs.Prelude.{◌≡◌, ℕ};
 ghost use Rattle.scale.specs.Model.{ScaleModel, at_code, at_codes};
 

@@ -1,5 +1,8 @@
 // settle: reads a patch from standard input and prints the listing of its settled bytes, or the line of its refusal.
 // The scale is gates, and the inputs 0 to 23 are read in that order.
+
+#![tactic(auto)]
+
 use forms::ENCODED_ROOM;
 use patch::{Patch, Refusal, ScanOrder, listing, refusal_line};
 use rack::Rack;

@@ -1,5 +1,8 @@
 // Settling: any diagram that is drafted in working memory becomes the canonical one of its rule.
 // Working memory has four areas of 128 strips: the rows off of the places, their rows dif, a table of rows, and images.
+
+#![tactic(auto)]
+
 ghost use Rattle.std.specs.Prelude.{◌≤◌, length, IfOk};
 ghost use Rattle.settling.specs.Draft.{Beyond};
 ghost use Rattle.settling.specs.Settling.{Sound, FormedDraft, rule_of, positions, Settled};

@@ -1,4 +1,7 @@
 // Strips: rows of codes of one scale, in whatever layout a build stores them.
+
+#![tactic(auto)]
+
 ghost use Rattle.std.specs.Prelude.{◌≡◌, ℕ, ◌<◌, ◌≤◌, T};
 ghost use Rattle.strip.specs.Row.{Row, zeros, First, Put, Added};
 

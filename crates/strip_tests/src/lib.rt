@@ -1,4 +1,7 @@
 // Tests of the scales and of the strips, on examples.
+
+#![tactic(auto)]
+
 #[cfg(test)]
 mod tests {
     use scale::Scale;
