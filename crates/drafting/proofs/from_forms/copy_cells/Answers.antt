@@ -13,10 +13,10 @@ loop-j-preserved g c =
     let code = g.S.Strip.code in
     let form = c.args.form.now in
     let few = c.args.plan.now.few in (
-      dif_stored code _ _ _ _ few c.form-place.ensures.within c.loop-j.invariant.0 _ c.store.ensures.row c.store.ensures.outside c.moved-row.ensures.ends,
-      one_copied g.Codes.Scale.model code _ _ _ form 128 Every _ _ _ _ c.loop-j.invariant.1 (omega arith) (omega arith) _ _ _ c.store.ensures.row c.form-place.ensures.is tt
+      dif_stored code _ _ _ _ few c.form_place.ensures.within c.loop-j.invariant.0 _ c.store.ensures.row c.store.ensures.outside c.moved-row.ensures.ends,
+      one_copied g.Codes.Scale.model code _ _ _ form 128 Every _ _ _ _ c.loop-j.invariant.1 (omega arith) (omega arith) _ _ _ c.store.ensures.row c.form_place.ensures.is tt
           (rows_at code form.strips.now form.base c.loop-j.j c.index-form-form.result (omega (arith, c.requires.strips, c.requires.few))) c.moved-row.ensures.row,
-      outside_trans code _ _ _ 128 128 c.loop-j.invariant.2 (c.store.ensures.outside 128 (omega (arith, c.form-place.ensures.within, few))),
+      outside_trans code _ _ _ 128 128 c.loop-j.invariant.2 (c.store.ensures.outside 128 (omega (arith, c.form_place.ensures.within, few))),
     )
 
 pub returns : goal.returns

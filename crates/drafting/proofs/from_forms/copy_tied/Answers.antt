@@ -18,8 +18,8 @@ loop-j-preserved g c =
     let form = c.args.form.now in
     let plan = c.args.plan.now in
     let few = plan.few in
-    let within = c.form-place-place.ensures.within in
-    let here : c.form-place-place.result < 128 = omega arith in
+    let within = c.form_place-place.ensures.within in
+    let here : c.form_place-place.result < 128 = omega arith in
     let free = Free form c.args.input in
     let tied = Held form c.args.input c.args.on in
     let row = rows_at code form.strips.now form.base c.loop-j.j c.index-form-form.result (omega (arith, c.requires.strips, c.requires.few)) in
@@ -29,14 +29,14 @@ loop-j-preserved g c =
     elim c.if-form-j.branch [
       | then-form-j w ↦ rw w.work-is (
         dif_stored code _ _ _ _ few within c.loop-j.invariant.0 _ w.store.ensures.row w.store.ensures.outside c.moved-row.ensures.ends,
-        one_copied M code len plan 0 form 128 free _ _ _ _ c.loop-j.invariant.1 some last _ _ _ w.store.ensures.row c.form-place-place.ensures.is w.if-form-j.true row c.moved-row.ensures.row,
+        one_copied M code len plan 0 form 128 free _ _ _ _ c.loop-j.invariant.1 some last _ _ _ w.store.ensures.row c.form_place-place.ensures.is w.if-form-j.true row c.moved-row.ensures.row,
         none_more M code len plan 0 form 0 tied _ _ _ _ c.loop-j.invariant.2 some last (λ h. w.if-form-j.true h.0) (λ k b. (w.store.ensures.outside 128 here).before 0 k (omega arith)) low,
         outside_trans code _ _ _ 0 256 c.loop-j.invariant.3 (dif_outside code _ _ (w.store.ensures.outside 128 here)),
       )
       | else-form-j+then-on w ↦ rw w.work-is (
         off_stored code _ _ _ _ few within c.loop-j.invariant.0 _ w.store-then-on.ensures.row w.store-then-on.ensures.outside c.moved-row.ensures.ends,
         none_more M code len plan 0 form 128 free _ _ _ _ c.loop-j.invariant.1 some last (λ h. h w.if-form-j.false) (λ k b. (w.store-then-on.ensures.outside 128 here).after 128 k (omega arith)) low,
-        one_copied M code len plan 0 form 0 tied _ _ _ _ c.loop-j.invariant.2 some last _ _ _ w.store-then-on.ensures.row c.form-place-place.ensures.is (w.if-form-j.false, w.if-on.true) row c.moved-row.ensures.row,
+        one_copied M code len plan 0 form 0 tied _ _ _ _ c.loop-j.invariant.2 some last _ _ _ w.store-then-on.ensures.row c.form_place-place.ensures.is (w.if-form-j.false, w.if-on.true) row c.moved-row.ensures.row,
         outside_trans code _ _ _ 0 256 c.loop-j.invariant.3 (off_outside code _ _ (w.store-then-on.ensures.outside 128 here)),
       )
       | else-form-j+else-on w ↦ rw w.work-is (

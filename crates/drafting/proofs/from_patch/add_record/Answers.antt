@@ -9,38 +9,38 @@ use Rattle.drafting.proofs.from_patch.add_record.Goals as goal
 pub returns-in-Off : goal.returns-in-Off
 returns-in-Off g c = record {
   bounded =
-      dif_added g.S.Strip.code _ _ _ _ c.args.plan.now.few c.cell-place-h.ensures.within
-      (off_added g.S.Strip.code _ _ _ _ c.args.plan.now.few c.cell-place-h.ensures.within c.requires.bounded _ _ _ _ c.add-in.ensures.row c.add-in.ensures.outside c.cell-place-t.ensures.within)
-      _ _ _ _ c.add-in-in-Off.ensures.row c.add-in-in-Off.ensures.outside c.cell-place-t.ensures.within;
+      dif_added g.S.Strip.code _ _ _ _ c.args.plan.now.few c.cell_place-h.ensures.within
+      (off_added g.S.Strip.code _ _ _ _ c.args.plan.now.few c.cell_place-h.ensures.within c.requires.bounded _ _ _ _ c.add_in.ensures.row c.add_in.ensures.outside c.cell_place-t.ensures.within)
+      _ _ _ _ c.add_in-in-Off.ensures.row c.add_in-in-Off.ensures.outside c.cell_place-t.ensures.within;
   outlet = c.requires.outlet;
   entered =
-      entered_off g.Codes.Scale.model g.S.Strip.code g.met.S.Strip.coded g.S.Strip.len (spots c.args.plan.now) (meant c.args.entry) c.requires.coded c.cell-place-t.result
-      (omega (arith, c.cell-place-t.ensures.within, c.requires.within)) c.cell-place-h.result (omega (arith, c.cell-place-h.ensures.within, c.args.plan.now.few)) _
-      c.in-Off.from c.in-Off.to c.in-Off.c c.cell-place-h.ensures.is c.cell-place-t.ensures.is (ap meant c.in-Off.is) _ _ _ c.negative.result c.negative.ensures
-      (c.add-in.ensures.row, c.add-in.ensures.outside) (c.add-in-in-Off.ensures.row, c.add-in-in-Off.ensures.outside);
+      entered_off g.Codes.Scale.model g.S.Strip.code g.met.S.Strip.coded g.S.Strip.len (spots c.args.plan.now) (meant c.args.entry) c.requires.coded c.cell_place-t.result
+      (omega (arith, c.cell_place-t.ensures.within, c.requires.within)) c.cell_place-h.result (omega (arith, c.cell_place-h.ensures.within, c.args.plan.now.few)) _
+      c.in-Off.from c.in-Off.to c.in-Off.c c.cell_place-h.ensures.is c.cell_place-t.ensures.is (ap meant c.in-Off.is) _ _ _ c.negative.result c.negative.ensures
+      (c.add_in.ensures.row, c.add_in.ensures.outside) (c.add_in-in-Off.ensures.row, c.add_in-in-Off.ensures.outside);
 }
 
 pub returns-in-On : goal.returns-in-On
 returns-in-On g c = record {
   bounded =
-      dif_added g.S.Strip.code _ _ _ _ c.args.plan.now.few c.cell-place-h-in-On.ensures.within c.requires.bounded
-      _ _ _ _ c.add-in-in-On.ensures.row c.add-in-in-On.ensures.outside c.cell-place-t-in-On.ensures.within;
+      dif_added g.S.Strip.code _ _ _ _ c.args.plan.now.few c.cell_place-h-in-On.ensures.within c.requires.bounded
+      _ _ _ _ c.add_in-in-On.ensures.row c.add_in-in-On.ensures.outside c.cell_place-t-in-On.ensures.within;
   outlet = c.requires.outlet;
   entered =
-      entered_on g.Codes.Scale.model g.S.Strip.code g.met.S.Strip.coded g.S.Strip.len (spots c.args.plan.now) (meant c.args.entry) c.requires.coded c.cell-place-t-in-On.result
-      (omega (arith, c.cell-place-t-in-On.ensures.within, c.requires.within)) c.cell-place-h-in-On.result (omega (arith, c.cell-place-h-in-On.ensures.within, c.args.plan.now.few)) _
-      c.in-On.from c.in-On.to c.in-On.c c.cell-place-h-in-On.ensures.is c.cell-place-t-in-On.ensures.is (ap meant c.in-On.is) _ _
-      (c.add-in-in-On.ensures.row, c.add-in-in-On.ensures.outside);
+      entered_on g.Codes.Scale.model g.S.Strip.code g.met.S.Strip.coded g.S.Strip.len (spots c.args.plan.now) (meant c.args.entry) c.requires.coded c.cell_place-t-in-On.result
+      (omega (arith, c.cell_place-t-in-On.ensures.within, c.requires.within)) c.cell_place-h-in-On.result (omega (arith, c.cell_place-h-in-On.ensures.within, c.args.plan.now.few)) _
+      c.in-On.from c.in-On.to c.in-On.c c.cell_place-h-in-On.ensures.is c.cell_place-t-in-On.ensures.is (ap meant c.in-On.is) _ _
+      (c.add_in-in-On.ensures.row, c.add_in-in-On.ensures.outside);
 }
 
 pub returns-in-Outlet : goal.returns-in-Outlet
 returns-in-Outlet g c = record {
   bounded = c.requires.bounded;
-  outlet = λ p l. c.add-at.ensures.rest p (λ e. omega (arith, c.cell_place.ensures.within)) ∙ c.requires.outlet p l;
+  outlet = λ p l. c.add_at.ensures.rest p (λ e. omega (arith, c.cell_place.ensures.within)) ∙ c.requires.outlet p l;
   entered =
       entered_outlet g.Codes.Scale.model g.S.Strip.code g.met.S.Strip.coded g.S.Strip.len (spots c.args.plan.now) (meant c.args.entry) c.requires.coded c.cell_place.result
       (omega (arith, c.cell_place.ensures.within, c.requires.within)) c.in-Outlet.to c.in-Outlet.c (ap meant c.in-Outlet.is) c.cell_place.ensures.is c.args.work.now _ _
-      c.add-at.ensures (g.met.S.Strip.coded c.args.out.now);
+      c.add_at.ensures (g.met.S.Strip.coded c.args.out.now);
 }
 
 pub returns-in-Filler : goal.returns-in-Filler

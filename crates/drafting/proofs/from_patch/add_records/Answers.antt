@@ -18,8 +18,8 @@ loop-k-init g c = record {
   beyond = λ b k l. refl;
 }
 
-pub add-record-requires : goal.add-record-requires
-add-record-requires g c =
+pub add_record-requires : goal.add_record-requires
+add_record-requires g c =
     let patch = c.args.patch.now in
     let some : 0 < patch.codes = omega (arith, c.requires.codes, some_code g.Codes.Scale.model) in
     let low : code (meant c.record.result) < patch.codes =
@@ -34,12 +34,12 @@ add-record-requires g c =
 
 pub loop-k-preserved : goal.loop-k-preserved
 loop-k-preserved g c = record {
-  bounded = c.add-record.ensures.bounded;
-  outlet = c.add-record.ensures.outlet;
+  bounded = c.add_record.ensures.bounded;
+  outlet = c.add_record.ensures.outlet;
   summed =
       summed_more g.Codes.Scale.model g.S.Strip.code (spots c.args.plan.now) (records (seen c.args.patch.now)) c.args.plan.now.cells c.args.plan.now.few c.loop-k.k
-      (meant c.record.result) c.record.ensures _ _ _ _ c.add-record.ensures.entered c.loop-k.invariant.summed;
-  beyond = λ b k l. c.add-record.ensures.entered.beyond b k l ∙ c.loop-k.invariant.beyond b k l;
+      (meant c.record.result) c.record.ensures _ _ _ _ c.add_record.ensures.entered c.loop-k.invariant.summed;
+  beyond = λ b k l. c.add_record.ensures.entered.beyond b k l ∙ c.loop-k.invariant.beyond b k l;
 }
 
 pub returns : goal.returns

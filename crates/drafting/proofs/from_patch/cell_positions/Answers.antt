@@ -9,7 +9,7 @@ use Rattle.patch.proofs.Checked.{declared_take}
 use Rattle.patch.proofs.Scanning.{no_cell}
 use Rattle.drafting.specs.Arcs.{Positions}
 use Rattle.drafting.proofs.Declaring.{declared_cell, cell_below, positions_more}
-use Rattle.drafting.proofs.from_patch.cell_positions.Goals.{in-Cell, in-default}
+use Rattle.drafting.proofs.from_patch.cell_positions.Goals.{in-Cell, in_default}
 use Rattle.drafting.proofs.from_patch.cell_positions.Goals as goal
 
 pub bounds-positions-count : goal.bounds-positions-count
@@ -22,8 +22,8 @@ bounds-positions-count c =
           omega (arith, c.count-k-end.ensures)) c.in-Cell.ensures,
     )
 
-pub overflow-add-count : goal.overflow-add-count
-overflow-add-count c =
+pub overflow_add-count : goal.overflow_add-count
+overflow_add-count c =
     let patch = c.args.patch.now in
     omega (
       arith,
@@ -54,9 +54,9 @@ loop-k-preserved c =
                 subst (Positions order (before ++ i ∷ [])) (sym kept) (positions_more order before c.loop-k.positions i (omega (arith, long, c.requires.few, few i w.in-Cell.ensures)) c.loop-k.invariant.1)),
           )
           )
-      | in-default w ↦ (
+      | in_default w ↦ (
           let same : declared [] (take (k + 1) rs) ≡ before =
-          declared_take rs [] k l ∙ ap (declare before) (sym c.record.ensures) ∙ no_cell before c.record.result w.in-default.not-Cell in (
+          declared_take rs [] k l ∙ ap (declare before) (sym c.record.ensures) ∙ no_cell before c.record.result w.in_default.not-Cell in (
             omega (arith, w.count_is, c.loop-k.invariant.0, ap length same),
             subst (λ (xs : List ℕ). Positions order xs c.match-record.positions) (sym same) (subst (Positions order before) (sym w.positions-is) c.loop-k.invariant.1),
           )

@@ -3,14 +3,14 @@ use Rattle.drafting.proofs.Planning.{passed, placed, room}
 use Rattle.drafting.proofs.plan.place_position.Goals as goal
 use Rattle.drafting.proofs.plan.place_position.Goals.{then-positions-c, else-positions-c}
 
-pub overflow-cast-place : goal.overflow-cast-place
-overflow-cast-place c = omega (arith, room _ _ _ _ _ _ _ _ c.loop-c.invariant.0 c.loop-c-test.true c.if-positions-c.true)
+pub overflow_cast-place : goal.overflow_cast-place
+overflow_cast-place c = omega (arith, room _ _ _ _ _ _ _ _ c.loop-c.invariant.0 c.loop-c-test.true c.if-positions-c.true)
 
 pub bounds-pos-next : goal.bounds-pos-next
 bounds-pos-next c = omega (arith, room _ _ _ _ _ _ _ _ c.loop-c.invariant.0 c.loop-c-test.true c.if-positions-c.true)
 
-pub overflow-add-next : goal.overflow-add-next
-overflow-add-next c = omega (arith, room _ _ _ _ _ _ _ _ c.loop-c.invariant.0 c.loop-c-test.true c.if-positions-c.true)
+pub overflow_add-next : goal.overflow_add-next
+overflow_add-next c = omega (arith, room _ _ _ _ _ _ _ _ c.loop-c.invariant.0 c.loop-c-test.true c.if-positions-c.true)
 
 pub loop-c-preserved : goal.loop-c-preserved
 loop-c-preserved c = elim c.if-positions-c.branch [

@@ -16,15 +16,15 @@ returns-then-pivot-ne0 g c =
     let h = c.args.h in
     let l : h < n = c.requires.below in
     let w₀ = c.args.work.now in
-    let w₁ = c.unit-head.new.work in
-    let w₂ = c.clear-column.new.work in
+    let w₁ = c.unit_head.new.work in
+    let w₂ = c.clear_column.new.work in
     let R₀ : ℕ → Row = Rows s.code w₀ base in
     let R₁ : ℕ → Row = Rows s.code w₁ base in
     let R₂ : ℕ → Row = Rows s.code w₂ base in
     let coded = rows_coded s.code F.q (zero_code F) g.met.S.Strip.coded in
     let filled : R₀ h h ≢ 0 = λ e. c.if-pivot-ne0.true (c.pivot.ensures ∙ e) in
-    let set = c.unit-head.ensures.row in
-    let swept = c.clear-column.ensures.swept in
+    let set = c.unit_head.ensures.row in
+    let swept = c.clear_column.ensures.swept in
     let shape₁ : Echelon n R₁ = unit_shape F n R₀ R₁ (coded w₀ base) (coded w₁ base) c.requires.shape h l filled set in
     record {
       shape = sweep_shape F n R₁ R₂ (coded w₁ base) (coded w₂ base) shape₁ h l swept;
@@ -33,7 +33,7 @@ returns-then-pivot-ne0 g c =
           (unit_tidy F n R₀ R₁ (coded w₀ base) (coded w₁ base) c.requires.shape h l filled set c.requires.tidy);
       span = same_trans F n R₀ R₁ R₂ (unit_span F n R₀ R₁ (coded w₀ base) (coded w₁ base) c.requires.shape h l filled set)
           (sweep_span F n R₁ R₂ (coded w₁ base) (coded w₂ base) shape₁ h l swept);
-      outside = outside_trans s.code w₀ w₁ w₂ base n (c.unit-head.ensures.outside n l) (c.clear-column.ensures.outside n (omega arith));
+      outside = outside_trans s.code w₀ w₁ w₂ base n (c.unit_head.ensures.outside n l) (c.clear_column.ensures.outside n (omega arith));
     }
 
 pub returns-else-pivot-ne0 : goal.returns-else-pivot-ne0

@@ -19,8 +19,8 @@ returns g c =
     let row : Row = s.code c.index-work-base.result in
     let read : R h ≡ row = rows_read s.code work base h _ c.requires.room c.index-work-base.is in
     let factor : c.inverse.result ≡ F.inv (R h h) = c.inverse.ensures ∙ inv_answer M _ ∙ ap F.inv (c.ask.ensures ∙ sym (ap (λ (f : Row). f h) read)) in
-    let sum : s.code c.add-times.new.v ≡ added F (s.code c.blank-unit.result) c.inverse.result row = c.add-times.ensures in
-    let unit : s.code c.add-times.new.v ≡ scaled F (F.inv (R h h)) (R h) =
+    let sum : s.code c.add_times.new.v ≡ added F (s.code c.blank-unit.result) c.inverse.result row = c.add_times.ensures in
+    let unit : s.code c.add_times.new.v ≡ scaled F (F.inv (R h h)) (R h) =
     sum ∙ ap (λ (f : Row). added F f c.inverse.result row) c.blank-unit.ensures ∙ fun_ext (λ p. F.plus_zero _ (F.times_code _ _))
     ∙ ap (λ x. scaled F x row) factor ∙ ap (scaled F (F.inv (R h h))) (sym read) in
     record {

@@ -18,23 +18,23 @@ returns-then-h-size g c =
     let size = c.args.size in
     let work = c.args.work.now in
     let base = c.args.base in
-    let h = c.first-in-h.result in
-    let rest = c.reduce-with-coef.new.v in
+    let h = c.first_in-h.result in
+    let rest = c.reduce_with-coef.new.v in
     let coded = rows_coded s.code F.q (zero_code F) g.met.S.Strip.coded in
     let R : ℕ → Row = Rows s.code work base in
     let R' : ℕ → Row = Rows s.code c.store.new.work base in
     let below : h < size = omega arith in
-    let empty : R h h ≡ 0 = c.reduce-with-coef.ensures.left h c.first-in-h.ensures below in
-    let out : (p : ℕ) → size ≤ p → s.code rest p ≡ 0 = left_inside F size R c.requires.inside (s.code c.args.v) (s.code rest) _ (g.met.S.Strip.coded rest) c.requires.below c.reduce-with-coef.ensures.balance in
+    let empty : R h h ≡ 0 = c.reduce_with-coef.ensures.left h c.first_in-h.ensures below in
+    let out : (p : ℕ) → size ≤ p → s.code rest p ≡ 0 = left_inside F size R c.requires.inside (s.code c.args.v) (s.code rest) _ (g.met.S.Strip.coded rest) c.requires.below c.reduce_with-coef.ensures.balance in
     let set = c.store.ensures.row in
     record {
-      shape = stays size R R' _ h c.requires.shape c.first-in-h.ensures below set;
+      shape = stays size R R' _ h c.requires.shape c.first_in-h.ensures below set;
       inside = set_inside size R R' (s.code rest) h c.requires.inside out set;
       outside = c.store.ensures.outside size below;
-      absorbed = absorbed_new M size R R' (coded work base) (coded c.store.new.work base) (s.code c.args.v) (s.code rest) (s.code c.reduce-with-coef.result) (s.code c.put.new.self)
-          (g.met.S.Strip.coded c.args.v) (g.met.S.Strip.coded rest) (g.met.S.Strip.coded c.reduce-with-coef.result)
-          c.reduce-with-coef.ensures.balance c.reduce-with-coef.ensures.sparse c.reduce-with-coef.ensures.past c.reduce-with-coef.ensures.early
-          h below c.first-in-h.ensures (λ p. c.requires.shape.blank h p below empty) set (λ p b. c.reduce-with-coef.ensures.later h p c.first-in-h.ensures b)
+      absorbed = absorbed_new M size R R' (coded work base) (coded c.store.new.work base) (s.code c.args.v) (s.code rest) (s.code c.reduce_with-coef.result) (s.code c.put.new.self)
+          (g.met.S.Strip.coded c.args.v) (g.met.S.Strip.coded rest) (g.met.S.Strip.coded c.reduce_with-coef.result)
+          c.reduce_with-coef.ensures.balance c.reduce_with-coef.ensures.sparse c.reduce_with-coef.ensures.past c.reduce_with-coef.ensures.early
+          h below c.first_in-h.ensures (λ p. c.requires.shape.blank h p below empty) set (λ p b. c.reduce_with-coef.ensures.later h p c.first_in-h.ensures b)
           (c.put.ensures.here (omega (arith, c.requires.within)) F.one_code) c.put.ensures.rest;
     }
 
@@ -46,19 +46,19 @@ returns-else-h-size g c =
     let size = c.args.size in
     let work = c.args.work.now in
     let base = c.args.base in
-    let rest = c.reduce-with-coef.new.v in
+    let rest = c.reduce_with-coef.new.v in
     let coded = rows_coded s.code F.q (zero_code F) g.met.S.Strip.coded in
     let R : ℕ → Row = Rows s.code work base in
-    let out : (p : ℕ) → size ≤ p → s.code rest p ≡ 0 = left_inside F size R c.requires.inside (s.code c.args.v) (s.code rest) _ (g.met.S.Strip.coded rest) c.requires.below c.reduce-with-coef.ensures.balance in
+    let out : (p : ℕ) → size ≤ p → s.code rest p ≡ 0 = left_inside F size R c.requires.inside (s.code c.args.v) (s.code rest) _ (g.met.S.Strip.coded rest) c.requires.below c.reduce_with-coef.ensures.balance in
     let blank : (p : ℕ) → s.code rest p ≡ 0 = λ p. elim (dec_lt p size) [
-      | yes l ↦ c.first-in-h.ensures.before p (omega arith)
+      | yes l ↦ c.first_in-h.ensures.before p (omega arith)
       | no l ↦ out p (omega arith)
     ] in
     record {
       shape = c.requires.shape;
       inside = c.requires.inside;
       outside = record { before = λ _ _ _. refl; after = λ _ _ _. refl };
-      absorbed = absorbed_none M size R (coded work base) (s.code c.args.v) (s.code rest) (s.code c.reduce-with-coef.result)
-          (g.met.S.Strip.coded c.args.v) (g.met.S.Strip.coded rest) (g.met.S.Strip.coded c.reduce-with-coef.result)
-          c.reduce-with-coef.ensures.balance c.reduce-with-coef.ensures.sparse c.reduce-with-coef.ensures.past c.reduce-with-coef.ensures.early blank;
+      absorbed = absorbed_none M size R (coded work base) (s.code c.args.v) (s.code rest) (s.code c.reduce_with-coef.result)
+          (g.met.S.Strip.coded c.args.v) (g.met.S.Strip.coded rest) (g.met.S.Strip.coded c.reduce_with-coef.result)
+          c.reduce_with-coef.ensures.balance c.reduce_with-coef.ensures.sparse c.reduce_with-coef.ensures.past c.reduce_with-coef.ensures.early blank;
     }

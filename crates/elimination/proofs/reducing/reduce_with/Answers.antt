@@ -14,16 +14,16 @@ loop-h-init g c =
     let F = arithmetic g.Codes.Scale.model in
     let blank : (p : ℕ) → s.code c.blank-coef.result p ≡ 0 = λ p. ap (λ (f : Row). f p) c.blank-coef.ensures in
     record {
-      first = c.first-in-h.ensures;
+      first = c.first_in-h.ensures;
       later = λ p _. blank p;
       sparse = λ j _ _. blank j;
-      early = λ k l z. (elim (dec_le k c.first-in-h.result) [ yes o ↦ o | no o ↦ absurd (c.first-in-h.ensures.found (omega arith) (z c.first-in-h.result (omega arith))) ], λ p _. blank p);
+      early = λ k l z. (elim (dec_le k c.first_in-h.result) [ yes o ↦ o | no o ↦ absurd (c.first_in-h.ensures.found (omega arith) (z c.first_in-h.result (omega arith))) ], λ p _. blank p);
       balance = λ p. sym (ap (F.plus _) (combine_blank F c.args.size _ (Rows s.code c.args.work.now c.args.base) blank p)
           ∙ zero_plus F _ (g.met.S.Strip.coded c.args.v.now p));
     }
 
 -- what a turn knows, in the words of the lemmas
-module _ (g : given.Over) (c : goal.After-first-in-h-in-loop-h g) where
+module _ (g : given.Over) (c : goal.After-first_in-h-in-loop-h g) where
   R : ℕ → Row
   R = Rows g.S.Strip.code c.args.work.now c.args.base
 
@@ -46,7 +46,7 @@ pub loop-h-smaller : goal.loop-h-smaller
 loop-h-smaller g c =
     let F = arithmetic g.Codes.Scale.model in
     let up = rises F c.args.size (R g c) c.loop-h.h (below g c) (shape g c) (filled g c)
-    (g.S.Strip.code c.loop-h.v) _ _ c.first-in-h-in-loop-h.result c.loop-h.invariant.first (step g c) c.first-in-h-in-loop-h.ensures in
+    (g.S.Strip.code c.loop-h.v) _ _ c.first_in-h-in-loop-h.result c.loop-h.invariant.first (step g c) c.first_in-h-in-loop-h.ensures in
     omega arith
 
 pub loop-h-preserved : goal.loop-h-preserved
@@ -55,9 +55,9 @@ loop-h-preserved g c =
     let F = arithmetic g.Codes.Scale.model in
     let s = g.S.Strip in
     let up = rises F c.args.size (R g c) c.loop-h.h (below g c) (shape g c) (filled g c)
-    (g.S.Strip.code c.loop-h.v) _ _ c.first-in-h-in-loop-h.result c.loop-h.invariant.first (step g c) c.first-in-h-in-loop-h.ensures in
+    (g.S.Strip.code c.loop-h.v) _ _ c.first_in-h-in-loop-h.result c.loop-h.invariant.first (step g c) c.first_in-h-in-loop-h.ensures in
     record {
-      first = c.first-in-h-in-loop-h.ensures;
+      first = c.first_in-h-in-loop-h.ensures;
       later = λ p k. c.put.ensures.rest p (omega arith) ∙ c.loop-h.invariant.later p (omega arith);
       sparse = λ j l z. elim (ℕ_discrete j c.loop-h.h) [
         | yes e ↦ absurd (filled g c (subst (λ i. R g c i i ≡ 0) e z))

@@ -16,4 +16,4 @@ returns g c =
     let factor : c.product-factor.result ≡ F.times (code v h) (F.inv (code row h)) =
     c.product-factor.ensures ∙ times_answer M _ _ ∙ ap₂ F.times c.ask.ensures (c.inverse.ensures ∙ inv_answer M _ ∙ ap F.inv c.ask-2.ensures) in
     cleared F (code v) (code row) _ h _ (g.met.S.Strip.coded v) (g.met.S.Strip.coded row) factor
-    (c.add-times.ensures ∙ ap (λ x. added F (code v) x (code row)) (c.negative.ensures ∙ neg_answer M _))
+    (c.add_times.ensures ∙ ap (λ x. added F (code v) x (code row)) (c.negative.ensures ∙ neg_answer M _))

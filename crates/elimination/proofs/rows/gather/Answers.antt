@@ -39,7 +39,7 @@ loop-t-preserved g c p =
     λ x e. rw more (e ∙ ap₂ (scalars M).plus (c.loop-t.invariant p) here ∙ (scalars M).plus_assoc _ _ _) in
     elim c.if-c-ne0.branch [
       | then-c-ne0 w ↦ rw w.sum-is (whole _ (
-          ap (up M) (at w.add-times.ensures p)
+          ap (up M) (at w.add_times.ensures p)
           ∙ up_added M (s.code c.loop-t.sum) (s.code w.index-work-base.result) c.ask-c.result p (g.met.S.Strip.coded c.loop-t.sum p)
           ∙ ap (λ (f : Row). (scalars M).plus (up M (s.code c.loop-t.sum p)) ((scalars M).times (up M c.ask-c.result) (up M (f p))))
           (sym (rows_read s.code c.args.work.now c.args.base t _ (omega arith) w.index-work-base.is))))

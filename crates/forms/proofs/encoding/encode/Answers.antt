@@ -15,9 +15,9 @@ returns g c =
     let base = form.base in
     let count = form.count in
     let inputs = form.inputs.now in
-    let all : Put c.args.out.now 0 (form_bytes code xs base count inputs) c.put-arcs.new.out c.put-arcs.result = put_as (joined inputs (Rows code xs base) (Rows code xs base 0) count _ (sym (base_row code xs base _ (omega (arith, c.requires.strips))))) (put_then c.put-cells-cells.ensures.puts (put_then c.put-rows-rows.ensures.puts c.put-arcs.ensures.puts)) in
+    let all : Put c.args.out.now 0 (form_bytes code xs base count inputs) c.put_arcs.new.out c.put_arcs.result = put_as (joined inputs (Rows code xs base) (Rows code xs base 0) count _ (sym (base_row code xs base _ (omega (arith, c.requires.strips))))) (put_then c.put_cells-cells.ensures.puts (put_then c.put_rows-rows.ensures.puts c.put_arcs.ensures.puts)) in
     record {
-      most = omega (arith, c.put-arcs.ensures.most, c.put-rows-rows.ensures.most);
+      most = omega (arith, c.put_arcs.ensures.most, c.put_rows-rows.ensures.most);
       long = put_length _ _ _ _ all;
-      bytes = first_bytes c.args.out.now _ c.put-arcs.new.out c.put-arcs.result all (omega (arith, c.put-arcs.ensures.most, c.put-rows-rows.ensures.most));
+      bytes = first_bytes c.args.out.now _ c.put_arcs.new.out c.put_arcs.result all (omega (arith, c.put_arcs.ensures.most, c.put_rows-rows.ensures.most));
     }

@@ -15,8 +15,8 @@ loop-t-preserved g c =
     let t = c.loop-t.t in
     elim c.if-c-ne0.branch [
       | then-c-ne0 w ↦ rw (w.out-is, w.at-is) (
-        omega (arith, w.put-record-at.ensures.next, c.loop-t.invariant.0),
-        put_as (arc_more c.args.mark c.args.from row t c.ask-c.result c.ask-c.ensures w.if-c-ne0.true) (put_then c.loop-t.invariant.1 w.put-record-at.ensures.puts),
+        omega (arith, w.put_record-at.ensures.next, c.loop-t.invariant.0),
+        put_as (arc_more c.args.mark c.args.from row t c.ask-c.result c.ask-c.ensures w.if-c-ne0.true) (put_then c.loop-t.invariant.1 w.put_record-at.ensures.puts),
       )
       | else-c-ne0 w ↦ rw (w.out-is, w.at-is) (
         omega (arith, c.loop-t.invariant.0),

@@ -10,6 +10,6 @@ loop-k-init c = (omega arith, put_none _ _)
 
 pub loop-k-preserved : goal.loop-k-preserved
 loop-k-preserved c = (
-  omega (arith, c.put-record-at.ensures.next, c.loop-k.invariant.0),
-  put_as (sym (fold_more [] ◌++◌ c.loop-k.k _)) (put_then c.loop-k.invariant.1 c.put-record-at.ensures.puts),
+  omega (arith, c.put_record-at.ensures.next, c.loop-k.invariant.0),
+  put_as (sym (fold_more [] ◌++◌ c.loop-k.k _)) (put_then c.loop-k.invariant.1 c.put_record-at.ensures.puts),
 )

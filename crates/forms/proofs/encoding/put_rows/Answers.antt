@@ -17,6 +17,6 @@ loop-k-preserved g c =
     let xs = c.args.form.now.strips.now in
     let base = c.args.form.now.base in
     let k = c.loop-k.k in (
-      omega (arith, c.put-arcs-at.ensures.most, c.loop-k.invariant.0),
-      put_as (row_more (Rows code xs base) k _ (omega arith) (sym (rows_at code xs base k _ (omega (arith, c.requires.strips))))) (put_then c.loop-k.invariant.1 c.put-arcs-at.ensures.puts),
+      omega (arith, c.put_arcs-at.ensures.most, c.loop-k.invariant.0),
+      put_as (row_more (Rows code xs base) k _ (omega arith) (sym (rows_at code xs base k _ (omega (arith, c.requires.strips))))) (put_then c.loop-k.invariant.1 c.put_arcs-at.ensures.puts),
     )

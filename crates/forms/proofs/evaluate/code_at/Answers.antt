@@ -14,6 +14,6 @@ returns g c =
     let xs = form.strips.now in
     record {
       code = c.weighted.ensures.code;
-      sounds = λ order ech. sounds_as M code xs form.base form.count form.inputs.now c.args.setting order ech c.cell-values-values.result _ c.cell-values-values.ensures c.weighted.ensures.code (
-          c.weighted.ensures.value ∙ ap (λ (r : Row). weighed_up M r (form.count + 1) c.cell-values-values.result) (sym (base_row code xs form.base _ (omega (arith, c.requires.strips)))));
+      sounds = λ order ech. sounds_as M code xs form.base form.count form.inputs.now c.args.setting order ech c.cell_values-values.result _ c.cell_values-values.ensures c.weighted.ensures.code (
+          c.weighted.ensures.value ∙ ap (λ (r : Row). weighed_up M r (form.count + 1) c.cell_values-values.result) (sym (base_row code xs form.base _ (omega (arith, c.requires.strips)))));
     }

@@ -7,7 +7,7 @@ use Rattle.patch.specs.Judging.{meant, Holds}
 use Rattle.patch.proofs.Checked.{records_length}
 use Rattle.patch.proofs.Judged.{holds_none, holds_more}
 use Rattle.patch.proofs.Scanning.{no_cell, next_cells, goes_on, stops}
-use Rattle.patch.proofs.check.scan.Goals.{in-Cell, in-default}
+use Rattle.patch.proofs.check.scan.Goals.{in-Cell, in_default}
 use Rattle.patch.proofs.check.scan.Goals as goal
 
 pub loop-k-init : goal.loop-k-init
@@ -19,8 +19,8 @@ loop-k-preserved c =
     let order = listed c.args.order.now in
     let k : ℕ = c.loop-k.k in
     let inv = c.loop-k.invariant in
-    let next = next_cells order c.args.places c.args.codes bytes k c.loop-k-test.true c.loop-k.cells inv.1 c.check-record.result c.check-record.ensures c.in-Ok.record c.in-Ok.is in
-    let on = goes_on order c.args.places c.args.codes bytes k c.loop-k-test.true c.loop-k.cells inv.1 c.check-record.result c.check-record.ensures c.in-Ok.record c.in-Ok.is in
+    let next = next_cells order c.args.places c.args.codes bytes k c.loop-k-test.true c.loop-k.cells inv.1 c.check_record.result c.check_record.ensures c.in-Ok.record c.in-Ok.is in
+    let on = goes_on order c.args.places c.args.codes bytes k c.loop-k-test.true c.loop-k.cells inv.1 c.check_record.result c.check_record.ensures c.in-Ok.record c.in-Ok.is in
     let P : List ℕ → Type 0 = λ cs. Holds c.match-record.cells cs in
     elim c.match-record.branch [
       | in-Cell w ↦ (
@@ -30,9 +30,9 @@ loop-k-preserved c =
             ap (λ s. s.inputs) w.cells-is ∙ w.declare.ensures.keeps)),
         on ∙ inv.2,
       )
-      | in-default w ↦ (
+      | in_default w ↦ (
         omega (arith, ap (λ s. s.count) w.cells-is),
-        rw (next ∙ no_cell (declared [] (take k (records bytes))) c.in-Ok.record w.in-default.not-Cell, w.cells-is) inv.1,
+        rw (next ∙ no_cell (declared [] (take k (records bytes))) c.in-Ok.record w.in_default.not-Cell, w.cells-is) inv.1,
         on ∙ inv.2,
       )
     ]
@@ -41,7 +41,7 @@ pub returns-in-Err : goal.returns-in-Err
 returns-in-Err c =
     let bytes : List ℕ = c.args.bytes.now in
     sym c.loop-k.invariant.2
-    ∙ stops (listed c.args.order.now) c.args.places c.args.codes bytes c.loop-k.k c.loop-k-test.true c.loop-k.cells c.loop-k.invariant.1 c.check-record.result c.check-record.ensures c.in-Err.refusal c.in-Err.is
+    ∙ stops (listed c.args.order.now) c.args.places c.args.codes bytes c.loop-k.k c.loop-k-test.true c.loop-k.cells c.loop-k.invariant.1 c.check_record.result c.check_record.ensures c.in-Err.refusal c.in-Err.is
 
 pub returns-after-loop-k : goal.returns-after-loop-k
 returns-after-loop-k c =

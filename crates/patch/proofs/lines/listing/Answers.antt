@@ -9,5 +9,5 @@ pub returns : goal.returns
 returns c =
     let text = listing_text (records (seen c.args.patch.now)) in
     let out = c.args.out.now in
-    let fits : length text ≤ length out = omega (arith, c.put-lines-length.ensures.ends) in
-    (put_length out text _ _ c.put-lines.ensures, fits, put_whole out text _ _ c.put-lines.ensures fits)
+    let fits : length text ≤ length out = omega (arith, c.put_lines-length.ensures.ends) in
+    (put_length out text _ _ c.put_lines.ensures, fits, put_whole out text _ _ c.put_lines.ensures fits)

@@ -11,11 +11,11 @@ use Rattle.patch.proofs.Checked.{records_length, declared_take}
 use Rattle.patch.proofs.Lined.{lines_more, cell_more, silent_put, loud_put}
 use Rattle.patch.proofs.Putting.{put_then, put_as}
 use Rattle.patch.proofs.Scanning.{no_cell}
-use Rattle.patch.proofs.lines.put_lines.Goals.{in-Cell, in-default}
+use Rattle.patch.proofs.lines.put_lines.Goals.{in-Cell, in_default}
 use Rattle.patch.proofs.lines.put_lines.Goals as goal
 
-pub put-line-at-requires : goal.put-line-at-requires
-put-line-at-requires c =
+pub put_line-at-requires : goal.put_line-at-requires
+put_line-at-requires c =
     let w = c.args.patch.now in
     omega (arith, admitted_short (listed w.order) w.places w.codes (seen w) w.admitted, records_length (seen w), c.count-k-end.ensures, c.loop-k.invariant.1)
 
@@ -31,17 +31,17 @@ loop-k-preserved c =
     let count : c.match-record.cells ≡ length (declared [] (take (k + 1) rs)) =
     elim c.match-record.branch [
       | in-Cell w ↦ w.cells-is ∙ ap (λ n. n + 1) inv.2 ∙ sym (ap length next ∙ cell_more before c.record-record.result _ w.in-Cell.is)
-      | in-default w ↦ w.cells-is ∙ inv.2 ∙ sym (ap length (next ∙ no_cell before c.record-record.result w.in-default.not-Cell))
+      | in_default w ↦ w.cells-is ∙ inv.2 ∙ sym (ap length (next ∙ no_cell before c.record-record.result w.in_default.not-Cell))
     ] in
-    let few : c.match-record.cells ≤ k + 1 = elim c.match-record.branch [ in-Cell w ↦ omega (arith, w.cells-is, inv.0) | in-default w ↦ omega (arith, w.cells-is, inv.0) ] in
-    let put = put_as (ap (λ n. line n (meant c.record-record.result)) count ∙ ap (line (length (declared [] (take (k + 1) rs)))) c.record-record.ensures) c.put-line-at.ensures.puts in
-    (few, omega (arith, c.put-line-at.ensures.near, inv.1), count, rw (lines_more rs [] k among) (put_then inv.3 put))
+    let few : c.match-record.cells ≤ k + 1 = elim c.match-record.branch [ in-Cell w ↦ omega (arith, w.cells-is, inv.0) | in_default w ↦ omega (arith, w.cells-is, inv.0) ] in
+    let put = put_as (ap (λ n. line n (meant c.record-record.result)) count ∙ ap (line (length (declared [] (take (k + 1) rs)))) c.record-record.ensures) c.put_line-at.ensures.puts in
+    (few, omega (arith, c.put_line-at.ensures.near, inv.1), count, rw (lines_more rs [] k among) (put_then inv.3 put))
 
 pub returns-then-at-eq0 : goal.returns-then-at-eq0
 returns-then-at-eq0 c =
     let rs : List rec.Record = records (seen c.args.patch.now) in
     let all : take c.loop-k.k rs ≡ rs = take_all c.loop-k.k rs (omega (arith, c.count-k-end.ensures)) in
-    let put = rw all at c.loop-k.invariant.3 in silent_put (lines [] rs) c.args.out.now c.loop-k.out _ c.loop-k.at _ put c.if-at-eq0.true c.put-text.ensures
+    let put = rw all at c.loop-k.invariant.3 in silent_put (lines [] rs) c.args.out.now c.loop-k.out _ c.loop-k.at _ put c.if-at-eq0.true c.put_text.ensures
 
 pub returns-else-at-eq0 : goal.returns-else-at-eq0
 returns-else-at-eq0 c =

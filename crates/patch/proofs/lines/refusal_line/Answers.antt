@@ -7,5 +7,5 @@ pub returns : goal.returns
 returns c =
     let text = refusal_text c.args.refusal.now in
     let out = c.args.out.now in
-    let fits : length text ≤ length out = omega (arith, c.put-refusal-needed.ensures.ends) in
-    (put_length out text _ _ c.put-refusal.ensures, fits, put_whole out text _ _ c.put-refusal.ensures fits)
+    let fits : length text ≤ length out = omega (arith, c.put_refusal-needed.ensures.ends) in
+    (put_length out text _ _ c.put_refusal.ensures, fits, put_whole out text _ _ c.put_refusal.ensures fits)

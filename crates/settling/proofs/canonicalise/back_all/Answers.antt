@@ -13,11 +13,11 @@ pub loop-e-preserved : goal.loop-e-preserved
 loop-e-preserved g c =
     let old = c.loop-e.invariant.stepped in
     let new = c.in-Some.ensures.made in
-    let some : c.block-start-a.result < c.loop-e.e = c.block-start-a.ensures.some in
+    let some : c.block_start-a.result < c.loop-e.e = c.block_start-a.ensures.some in
     record {
       ends = omega (arith, c.loop-e.invariant.ends);
       beyond = λ b k l. c.in-Some.ensures.beyond b k l ∙ c.loop-e.invariant.beyond b k l;
-      edge = c.block-start-a.ensures.earlier;
+      edge = c.block_start-a.ensures.earlier;
       stepped = record {
         more = omega (arith, old.more, new.more);
         few = new.few;
@@ -26,8 +26,8 @@ loop-e-preserved g c =
       };
     }
 
-pub returns-in-default : goal.returns-in-default
-returns-in-default g c = record {
-  made = λ off dif out out' f derives backs. c.in-default.ensures.made off dif out out' f derives (c.loop-e.invariant.stepped.recedes off dif out out' f derives backs);
-  beyond = λ b k l. c.in-default.ensures.beyond b k l ∙ c.loop-e.invariant.beyond b k l;
+pub returns-in_default : goal.returns-in_default
+returns-in_default g c = record {
+  made = λ off dif out out' f derives backs. c.in_default.ensures.made off dif out out' f derives (c.loop-e.invariant.stepped.recedes off dif out out' f derives backs);
+  beyond = λ b k l. c.in_default.ensures.beyond b k l ∙ c.loop-e.invariant.beyond b k l;
 }

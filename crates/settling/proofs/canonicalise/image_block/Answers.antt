@@ -27,10 +27,10 @@ loop-h-preserved g c =
     let h = c.loop-h.h in
     let w₀ = c.args.work.now in
     let w = c.loop-h.work in
-    let w' = c.image-place.new.work in
+    let w' = c.image_place.new.work in
     let short : s.len ≤ 128 = g.met.S.Strip.short in
     let inv = c.loop-h.invariant in
-    let got = c.image-place.ensures in
+    let got = c.image_place.ensures in
     let a_h : a ≤ h = omega arith in
     let h_e : h < e = omega arith in
     record {

@@ -23,9 +23,9 @@ loop-k-preserved g c =
           (let row : filled (Rows s.code w₀ 256) k ≡ true = filled_yes (Rows s.code w₀ 256) k (λ z. w.if-pivot-ne0.true (read ∙ z)) in
           rw (w.work-is, w.cpos-is, w.j-is) (record {
             few = omega arith;
-            beyond = λ b i l. w.add-cell.ensures.beyond b i l ∙ c.loop-k.invariant.beyond b i l;
+            beyond = λ b i l. w.add_cell.ensures.beyond b i l ∙ c.loop-k.invariant.beyond b i l;
             numbered = numbered_more s.code w₀ c.args.cpos.now c.args.p c.args.a c.args.e c.args.size c.loop-k.work c.loop-k.cpos k c.loop-k.j n
-                w.add-cell.new.work w.add-cell.new.cpos row (omega arith) (omega arith) c.requires.few (omega arith) (omega arith) w.add-cell.ensures;
+                w.add_cell.new.work w.add_cell.new.cpos row (omega arith) (omega arith) c.requires.few (omega arith) (omega arith) w.add_cell.ensures;
           }))
       | else-pivot-ne0 w ↦
           (let none : filled (Rows s.code w₀ 256) k ≡ false = filled_no (Rows s.code w₀ 256) k (sym read ∙ w.if-pivot-ne0.false) in

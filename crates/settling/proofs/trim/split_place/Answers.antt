@@ -19,16 +19,16 @@ absorb-oc-requires g c =
     let w = c.args.work.now in
     let m = c.args.m in
     let h = c.args.h in
-    let e = c.block-end-e.result in
-    let ends : e ≤ m = c.block-end-e.ensures.ends in
+    let e = c.block_end-e.result in
+    let ends : e ≤ m = c.block_end-e.ensures.ends in
     let short : s.len ≤ 128 = g.met.S.Strip.short in
     record {
       room = omega arith;
       within = omega arith;
       shape = c.requires.tables.shape;
       inside = c.requires.tables.row;
-      below = rest_inside M (m + 1) (Rows s.code w 0) c.requires.tables.off (s.code c.rest-of-o.result) (Rows s.code w 256 h) (g.met.S.Strip.coded c.rest-of-o.result)
-          (Grid M s.code w 256 h) h e (omega arith) (λ p l. c.requires.tables.row h p (omega arith) l) c.rest-of-o.ensures;
+      below = rest_inside M (m + 1) (Rows s.code w 0) c.requires.tables.off (s.code c.rest_of-o.result) (Rows s.code w 256 h) (g.met.S.Strip.coded c.rest_of-o.result)
+          (Grid M s.code w 256 h) h e (omega arith) (λ p l. c.requires.tables.row h p (omega arith) l) c.rest_of-o.ensures;
     }
 
 pub absorb-dc-requires : goal.absorb-dc-requires
@@ -38,16 +38,16 @@ absorb-dc-requires g c =
     let w = c.args.work.now in
     let m = c.args.m in
     let h = c.args.h in
-    let e = c.block-end-e.result in
-    let ends : e ≤ m = c.block-end-e.ensures.ends in
+    let e = c.block_end-e.result in
+    let ends : e ≤ m = c.block_end-e.ensures.ends in
     let short : s.len ≤ 128 = g.met.S.Strip.short in
     record {
       room = omega arith;
       within = omega arith;
       shape = c.absorb-oc.ensures.shape;
       inside = c.absorb-oc.ensures.inside;
-      below = gain_inside M (m + 1) (Rows s.code w 128) c.requires.tables.dif (s.code c.gain-of-d.result) (g.met.S.Strip.coded c.gain-of-d.result)
-          (Grid M s.code w 256 h) h e (omega arith) c.gain-of-d.ensures;
+      below = gain_inside M (m + 1) (Rows s.code w 128) c.requires.tables.dif (s.code c.gain_of-d.result) (g.met.S.Strip.coded c.gain_of-d.result)
+          (Grid M s.code w 256 h) h e (omega arith) c.gain_of-d.ensures;
     }
 
 pub returns : goal.returns
@@ -57,8 +57,8 @@ returns g c =
     let pos = c.args.pos.now in
     let m = c.args.m in
     let h = c.args.h in
-    let e = c.block-end-e.result in
-    let block = c.block-end-e.ensures in
+    let e = c.block_end-e.result in
+    let block = c.block_end-e.ensures in
     let w₀ = c.args.work.now in
     let w₁ = c.absorb-oc.new.work in
     let w₂ = c.absorb-dc.new.work in
@@ -101,9 +101,9 @@ returns g c =
           (Grid M s.code w₀ 256) (λ k u l b. up_is_zero M (c.requires.tables.shape.low k u l b)) h e c.requires.below block.some block.ends
           block.same (λ v l k. block.later v l (omega arith))
           (Grid M s.code w₀ 0) (Grid M s.code w₀ 128) out' t
-          (vec M (s.code c.rest-of-o.result)) (vec M (s.code c.gain-of-d.result)) (vec M (s.code c.absorb-oc.result)) (vec M (s.code c.absorb-dc.result))
+          (vec M (s.code c.rest_of-o.result)) (vec M (s.code c.gain_of-d.result)) (vec M (s.code c.absorb-oc.result)) (vec M (s.code c.absorb-dc.result))
           (Grid M s.code w₁ 256) (Grid M s.code w₂ 256) (Grid M s.code w₄ 0) (Grid M s.code w₄ 128)
-          c.rest-of-o.ensures c.gain-of-d.ensures c.absorb-oc.ensures.absorbed c.absorb-dc.ensures.absorbed
+          c.rest_of-o.ensures c.gain_of-d.ensures c.absorb-oc.ensures.absorbed c.absorb-dc.ensures.absorbed
           (λ k u l b. up_is_zero M (c.absorb-oc.ensures.shape.low k u l b)) (λ k u l b. up_is_zero M (c.absorb-dc.ensures.shape.low k u l b))
           (λ u. ap (up M) (at off_here u)) (λ k u n l. ap (up M) (at (off_other k n (omega arith)) u))
           (λ u. ap (up M) (at dif_here u)) (λ k u n l. ap (up M) (at (dif_other k n (omega arith)) u)));

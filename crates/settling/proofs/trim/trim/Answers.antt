@@ -21,31 +21,31 @@ returns g c =
     let n = get_or pos c.args.d.now.cells 0 in
     let m = c.args.d.now.cells in
     let w₀ = c.args.work.now in
-    let w₁ = c.steady-table.new.work in
+    let w₁ = c.steady_table.new.work in
     let w₂ = c.absorb-o.new.work in
-    let w₃ = c.trim-places.new.work in
+    let w₃ = c.trim_places.new.work in
     let short : s.len ≤ 128 = g.met.S.Strip.short in
     let within : m < s.len = c.requires.sound.within in
     let m_in : m < 128 = omega arith in
     record {
       cells = refl;
       pos = refl;
-      beyond = λ b k l. c.trim-places.ensures.beyond b k l ∙ c.absorb-o.ensures.outside.after b k (omega arith) ∙ c.steady-table.ensures.outside.after b k (omega arith);
+      beyond = λ b k l. c.trim_places.ensures.beyond b k l ∙ c.absorb-o.ensures.outside.after b k (omega arith) ∙ c.steady_table.ensures.outside.after b k (omega arith);
       trimmed = λ formed.
           let D : Diagram (Element M) = drafted M s.code w₀ pos m (s.code c.args.d.now.out) in
-          let off₂ : (k : ℕ) → k < 128 → Rows s.code w₂ 0 k ≡ Rows s.code w₀ 0 k = λ k l. c.absorb-o.ensures.outside.before 0 k (omega arith) ∙ c.steady-table.ensures.outside.before 0 k (omega arith) in
-          let dif₂ : (k : ℕ) → k < 128 → Rows s.code w₂ 128 k ≡ Rows s.code w₀ 128 k = λ k l. c.absorb-o.ensures.outside.before 128 k (omega arith) ∙ c.steady-table.ensures.outside.before 128 k (omega arith) in
+          let off₂ : (k : ℕ) → k < 128 → Rows s.code w₂ 0 k ≡ Rows s.code w₀ 0 k = λ k l. c.absorb-o.ensures.outside.before 0 k (omega arith) ∙ c.steady_table.ensures.outside.before 0 k (omega arith) in
+          let dif₂ : (k : ℕ) → k < 128 → Rows s.code w₂ 128 k ≡ Rows s.code w₀ 128 k = λ k l. c.absorb-o.ensures.outside.before 128 k (omega arith) ∙ c.steady_table.ensures.outside.before 128 k (omega arith) in
           let start : Trimming (scalars M) n m D (Grid M s.code w₂ 256) (Grid M s.code w₂ 0) (Grid M s.code w₂ 128) (vec M (s.code c.absorb-o.result)) 0 =
           started (scalars M) n m D formed refl (omega arith) c.requires.sound.order.cells (λ a b l k. c.requires.sound.order.rising a b l (omega arith))
           (Grid M s.code w₁ 256) (Grid M s.code w₂ 256) (Grid M s.code w₂ 0) (Grid M s.code w₂ 128) (vec M (s.code c.absorb-o.result))
-          (ap (up M) c.steady-table.ensures.one ∙ up_one M) (λ h u l. up_is_zero M (at (c.steady-table.ensures.blank h l) u)) c.absorb-o.ensures.absorbed
+          (ap (up M) c.steady_table.ensures.one ∙ up_one M) (λ h u l. up_is_zero M (at (c.steady_table.ensures.blank h l) u)) c.absorb-o.ensures.absorbed
           (λ k u l b. up_is_zero M (c.absorb-o.ensures.shape.low k u l b))
           (λ k u l. ap (up M) (at (off₂ k (omega arith)) u)) (λ k u l. ap (up M) (at (dif₂ k (omega arith)) u)) in
-          let end = c.trim-places.ensures.step (Grid M s.code w₀ 0) (Grid M s.code w₀ 128) (vec M (s.code c.args.d.now.out)) (vec M (s.code c.absorb-o.result)) formed start in
+          let end = c.trim_places.ensures.step (Grid M s.code w₀ 0) (Grid M s.code w₀ 128) (vec M (s.code c.args.d.now.out)) (vec M (s.code c.absorb-o.result)) formed start in
           let trims : Trims (scalars M) n D (Grid M s.code w₃ 256) (Grid M s.code w₃ 0) (Grid M s.code w₃ 128) (vec M (s.code c.absorb-o.result)) =
           ended (scalars M) n m D formed refl (omega arith) c.requires.sound.order.cells (λ a b l k. c.requires.sound.order.rising a b l (omega arith))
           (Grid M s.code w₃ 256) (Grid M s.code w₃ 0) (Grid M s.code w₃ 128) (vec M (s.code c.absorb-o.result))
-          (λ k u l b. up_is_zero M (c.trim-places.ensures.tables.shape.low k u l b)) end in
+          (λ k u l b. up_is_zero M (c.trim_places.ensures.tables.shape.low k u l b)) end in
           let D' : Diagram (Element M) = drafted M s.code w₃ pos m (s.code c.absorb-o.result) in
           let same : (a : Assignment) → rule (scalars M) n D' a ≡ rule (scalars M) n D a = trimmed_rule (scalars M) n D formed _ _ _ _ trims in
           record {

@@ -7,9 +7,9 @@ loop-h-init g c = record { tables = c.requires.tables; beyond = λ b k l. refl; 
 
 pub loop-h-preserved : goal.loop-h-preserved
 loop-h-preserved g c = record {
-  tables = c.trim-place.ensures.tables;
-  beyond = λ b k l. c.trim-place.ensures.beyond b k l ∙ c.loop-h.invariant.beyond b k l;
-  step = λ off dif out out' formed t. c.trim-place.ensures.step off dif out out' formed (c.loop-h.invariant.step off dif out out' formed t);
+  tables = c.trim_place.ensures.tables;
+  beyond = λ b k l. c.trim_place.ensures.beyond b k l ∙ c.loop-h.invariant.beyond b k l;
+  step = λ off dif out out' formed t. c.trim_place.ensures.step off dif out out' formed (c.loop-h.invariant.step off dif out out' formed t);
 }
 
 pub returns : goal.returns

@@ -27,12 +27,12 @@ loop-k-preserved c =
     filled_more c.args.list.now c.loop-k.k c.loop-k.inputs c.loop-k.positions c.loop-k.invariant c.if-n-gt24.false
     c.loop-k-test.true c.if-v-n.false c.if-positions-v-ne-FREE.false
 
-pub invariant-of-self : goal.invariant-of-self
-invariant-of-self c =
+pub invariant_of-self : goal.invariant_of-self
+invariant_of-self c =
     let xs = c.args.list.now in
     let few = c.if-n-gt24.false in
     let all : c.loop-k.k ≡ length xs = omega arith in
-    (omega arith, (few, (c.loop-k.invariant.ins_long, (there xs c.loop-k.k _ _ c.loop-k.invariant few all, (back xs c.loop-k.k _ _ c.loop-k.invariant few all, tt)))))
+    record { some = omega arith; few = few; room = c.loop-k.invariant.ins_long; there = there xs c.loop-k.k _ _ c.loop-k.invariant few all; back = back xs c.loop-k.k _ _ c.loop-k.invariant few all }
 
 pub returns : goal.returns
 returns c =

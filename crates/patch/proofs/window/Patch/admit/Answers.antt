@@ -6,10 +6,10 @@ use Rattle.patch.proofs.Admitting.{admitted_none}
 use Rattle.patch.proofs.window.Patch.admit.Goals.{in-Ok, in-Err}
 use Rattle.patch.proofs.window.Patch.admit.Goals as goal
 
-pub invariant-of-result : goal.invariant-of-result
-invariant-of-result c = elim c.match-examine.branch [
-  | in-Ok w ↦ (rw w.result-is (λ i h. omega (arith, c.type-inv.bytes i), ap passes w.in-Ok.ensures), tt)
-  | in-Err w ↦ (rw w.result-is (admitted_none (listed c.args.order.now) c.args.places c.args.codes), tt)
+pub invariant_of-result : goal.invariant_of-result
+invariant_of-result c = elim c.match-examine.branch [
+  | in-Ok w ↦ record { admitted = rw w.result-is (λ i h. omega (arith, c.type_inv.bytes i), ap passes w.in-Ok.ensures) }
+  | in-Err w ↦ record { admitted = rw w.result-is (admitted_none (listed c.args.order.now) c.args.places c.args.codes) }
 ]
 
 pub returns : goal.returns

@@ -15,7 +15,7 @@ pub returns-then-k-self : goal.returns-then-k-self
 returns-then-k-self c =
     let w = c.args.self.now in
     let F = facts (listed w.order) w.codes (seen w) (lawful w.order) (admitted_patch (listed w.order) w.places w.codes (seen w) w.admitted) in
-    ap meant c.read-record.ensures ∙ read_at (listed w.order) w.codes (seen w) c.args.k c.if-k-self.true F
+    ap meant c.read_record.ensures ∙ read_at (listed w.order) w.codes (seen w) c.args.k c.if-k-self.true F
 
 pub returns-else-k-self : goal.returns-else-k-self
 returns-else-k-self c =
