@@ -12,7 +12,7 @@ loop-p-preserved g c =
     let M = g.C.Scale.model in
     adding_more M c.args.s c.args.c c.args.t.now _ _ _ c.loop-p-test.true c.loop-p.invariant
     (sum_is M c.args.s c.args.c c.args.t.now c.loop-p.p _ _ _ _ _ (omega arith) (c.loop-p.invariant.left c.loop-p.p (omega arith))
-    c.byte_code.ensures c.code_of-in-loop-p.ensures c.product.ensures c.sum.ensures)
+    c.code_of.ensures c.code_of-in-loop-p.ensures c.product.ensures c.sum.ensures)
 
 pub returns : goal.returns
 returns g c =
