@@ -38,10 +38,10 @@ fn copy_cells<S: Strip>(work: &mut [S], plan: &Plan, form: &FormView<S>, from: u
     requires few { form.now.count ≤ 31 }
     requires strips { form.now.base + 32 ≤ length form.now.strips.now }
     requires cells { from + form.now.count ≤ 127 }
-    requires bounded { Bounded code work.old plan.now.cells }
-    ensures bounded { Bounded code work.new plan.now.cells }
-    ensures dif { Copied S.Codes.Scale.model code len plan.now from form.now 128 Every (form.now.count + 1) work.old work.new }
-    ensures outside { Outside code work.old 128 128 work.new }
+    requires bounded { Bounded S.code work.old plan.now.cells }
+    ensures bounded { Bounded S.code work.new plan.now.cells }
+    ensures dif { Copied S.Codes.Scale.model S.code S.len plan.now from form.now 128 Every (form.now.count + 1) work.old work.new }
+    ensures outside { Outside S.code work.old 128 128 work.new }
 {
     for j in 1..form.count + 1 {
         let row = moved(&form.strips[form.base + j], form.count, plan, from);
@@ -62,12 +62,12 @@ pub fn draft_sum<S: Strip>(
     requires strips { a.now.base + 32 ≤ length a.now.strips.now }
     requires few_b { b.now.count ≤ 31 }
     requires strips_b { b.now.base + 32 ≤ length b.now.strips.now }
-    ensures within { result.cells < len }
+    ensures within { result.cells < S.len }
     ensures order { Ordered result.cells result.pos }
-    ensures bounded { Bounded code work.new result.cells }
-    ensures outlet { Ends result.cells (code result.out) }
-    ensures beyond { Beyond code work.old work.new }
-    ensures means { DraftsSum S.Codes.Scale.model code order.now a.now c b.now work.new result }
+    ensures bounded { Bounded S.code work.new result.cells }
+    ensures outlet { Ends result.cells (S.code result.out) }
+    ensures beyond { Beyond S.code work.old work.new }
+    ensures means { DraftsSum S.Codes.Scale.model S.code order.now a.now c b.now work.new result }
 {
     let mut positions = [0; 128];
     form_positions(a.inputs, a.count, order, 0, &mut positions);
@@ -91,11 +91,11 @@ fn copy_tied<S: Strip>(work: &mut [S], plan: &Plan, form: &FormView<S>, input: u
     requires room { 512 ≤ length work.old }
     requires few { form.now.count ≤ 31 }
     requires strips { form.now.base + 32 ≤ length form.now.strips.now }
-    requires bounded { Bounded code work.old plan.now.cells }
-    ensures bounded { Bounded code work.new plan.now.cells }
-    ensures dif { Copied S.Codes.Scale.model code len plan.now 0 form.now 128 (Free form.now input) (form.now.count + 1) work.old work.new }
-    ensures off { Copied S.Codes.Scale.model code len plan.now 0 form.now 0 (Held form.now input on) (form.now.count + 1) work.old work.new }
-    ensures outside { Outside code work.old 0 256 work.new }
+    requires bounded { Bounded S.code work.old plan.now.cells }
+    ensures bounded { Bounded S.code work.new plan.now.cells }
+    ensures dif { Copied S.Codes.Scale.model S.code S.len plan.now 0 form.now 128 (Free form.now input) (form.now.count + 1) work.old work.new }
+    ensures off { Copied S.Codes.Scale.model S.code S.len plan.now 0 form.now 0 (Held form.now input on) (form.now.count + 1) work.old work.new }
+    ensures outside { Outside S.code work.old 0 256 work.new }
 {
     for j in 1..form.count + 1 {
         let row = moved(&form.strips[form.base + j], form.count, plan, 0);
@@ -119,12 +119,12 @@ pub fn draft_tied<S: Strip>(
     requires room { 512 ≤ length work.old }
     requires few { form.now.count ≤ 31 }
     requires strips { form.now.base + 32 ≤ length form.now.strips.now }
-    ensures within { result.cells < len }
+    ensures within { result.cells < S.len }
     ensures order { Ordered result.cells result.pos }
-    ensures bounded { Bounded code work.new result.cells }
-    ensures outlet { Ends result.cells (code result.out) }
-    ensures beyond { Beyond code work.old work.new }
-    ensures means { DraftsTied S.Codes.Scale.model code order.now form.now input on work.new result }
+    ensures bounded { Bounded S.code work.new result.cells }
+    ensures outlet { Ends result.cells (S.code result.out) }
+    ensures beyond { Beyond S.code work.old work.new }
+    ensures means { DraftsTied S.Codes.Scale.model S.code order.now form.now input on work.new result }
 {
     let mut positions = [0; 128];
     form_positions(form.inputs, form.count, order, 0, &mut positions);

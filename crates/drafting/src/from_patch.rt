@@ -52,13 +52,13 @@ fn cell_place(plan: &Plan, cell: u8) -> usize
 // Adds what a record says to the rows of the draft, and to its outlet.
 fn add_record<S: Strip>(work: &mut [S], plan: &Plan, entry: Record, out: &mut S)
     requires room { 512 ≤ length work.old }
-    requires within { plan.now.cells < len }
+    requires within { plan.now.cells < S.len }
     requires coded { byte_code (meant entry) < S.Codes.Scale.model.q }
-    requires bounded { Bounded code work.old plan.now.cells }
-    requires outlet { Ends plan.now.cells (code out.old) }
-    ensures bounded { Bounded code work.new plan.now.cells }
-    ensures outlet { Ends plan.now.cells (code out.new) }
-    ensures entered { Entered S.Codes.Scale.model code (spots plan.now) (meant entry) work.old (code out.old) work.new (code out.new) }
+    requires bounded { Bounded S.code work.old plan.now.cells }
+    requires outlet { Ends plan.now.cells (S.code out.old) }
+    ensures bounded { Bounded S.code work.new plan.now.cells }
+    ensures outlet { Ends plan.now.cells (S.code out.new) }
+    ensures entered { Entered S.Codes.Scale.model S.code (spots plan.now) (meant entry) work.old (S.code out.old) work.new (S.code out.new) }
 {
     match entry {
         Record::Filler => {}
@@ -81,15 +81,15 @@ fn add_record<S: Strip>(work: &mut [S], plan: &Plan, entry: Record, out: &mut S)
 // Adds all records to blank rows, and answers the outlet.
 fn add_records<S: Strip>(work: &mut [S], plan: &Plan, patch: &Patch) -> S
     requires room { 512 ≤ length work.old }
-    requires within { plan.now.cells < len }
+    requires within { plan.now.cells < S.len }
     requires codes { patch.now.codes ≡ S.Codes.Scale.model.q }
-    requires bounded { Bounded code work.old plan.now.cells }
-    requires off { (h : ℕ) → h ≤ plan.now.cells → Rows code work.old 0 h ≡ zeros }
-    requires dif { (h : ℕ) → h ≤ plan.now.cells → Rows code work.old 128 h ≡ zeros }
-    ensures bounded { Bounded code work.new plan.now.cells }
-    ensures outlet { Ends plan.now.cells (code result) }
-    ensures summed { Summed S.Codes.Scale.model code (spots plan.now) (records (seen patch.now)) (length (records (seen patch.now))) plan.now.cells work.new (code result) }
-    ensures beyond { Beyond code work.old work.new }
+    requires bounded { Bounded S.code work.old plan.now.cells }
+    requires off { (h : ℕ) → h ≤ plan.now.cells → Rows S.code work.old 0 h ≡ zeros }
+    requires dif { (h : ℕ) → h ≤ plan.now.cells → Rows S.code work.old 128 h ≡ zeros }
+    ensures bounded { Bounded S.code work.new plan.now.cells }
+    ensures outlet { Ends plan.now.cells (S.code result) }
+    ensures summed { Summed S.Codes.Scale.model S.code (spots plan.now) (records (seen patch.now)) (length (records (seen patch.now))) plan.now.cells work.new (S.code result) }
+    ensures beyond { Beyond S.code work.old work.new }
 {
     let mut out = S::blank();
     for k in 0..patch.count() {
@@ -101,14 +101,14 @@ fn add_records<S: Strip>(work: &mut [S], plan: &Plan, patch: &Patch) -> S
 // Lays the patch's diagram out in the working strips.
 pub fn draft_patch<S: Strip>(work: &mut [S], patch: &Patch) -> Draft<S>
     requires room { 512 ≤ length work.old }
-    requires places { patch.now.places ≡ len }
+    requires places { patch.now.places ≡ S.len }
     requires codes { patch.now.codes ≡ S.Codes.Scale.model.q }
-    ensures within { result.cells < len }
+    ensures within { result.cells < S.len }
     ensures order { Ordered result.cells result.pos }
-    ensures bounded { Bounded code work.new result.cells }
-    ensures outlet { Ends result.cells (code result.out) }
-    ensures drafts { Drafts S.Codes.Scale.model code work.new result (length (listed patch.now.order)) (patch_rule S.Codes.Scale.model patch.now.order (seen patch.now)) }
-    ensures beyond { Beyond code work.old work.new }
+    ensures bounded { Bounded S.code work.new result.cells }
+    ensures outlet { Ends result.cells (S.code result.out) }
+    ensures drafts { Drafts S.Codes.Scale.model S.code work.new result (length (listed patch.now.order)) (patch_rule S.Codes.Scale.model patch.now.order (seen patch.now)) }
+    ensures beyond { Beyond S.code work.old work.new }
 {
     let mut positions = [0; 128];
     let count = cell_positions(patch, &mut positions);

@@ -15,7 +15,7 @@ use strip::Strip;
 
 // Adds c to the code at a place.
 pub fn add_at<S: Strip>(row: &mut S, place: usize, c: u8)
-    ensures { AddedAt S.Codes.Scale.model len (code row.old) place c (code row.new) }
+    ensures { AddedAt S.Codes.Scale.model S.len (S.code row.old) place c (S.code row.new) }
 {
     row.put(place, S::Codes::sum(row.ask(place), c));
 }
@@ -23,8 +23,8 @@ pub fn add_at<S: Strip>(row: &mut S, place: usize, c: u8)
 // Adds c to the code at a place of the row h.
 pub fn add_in<S: Strip>(work: &mut [S], base: usize, h: usize, place: usize, c: u8)
     requires room { base + h < length work.old }
-    ensures row { AddedIn S.Codes.Scale.model len (Rows code work.old base) h place c (Rows code work.new base) }
-    ensures outside { (n : ℕ) → h < n → Outside code work.old base n work.new }
+    ensures row { AddedIn S.Codes.Scale.model S.len (Rows S.code work.old base) h place c (Rows S.code work.new base) }
+    ensures outside { (n : ℕ) → h < n → Outside S.code work.old base n work.new }
 {
     let mut v = row(work, base, h);
     add_at(&mut v, place, c);
@@ -47,8 +47,8 @@ pub fn form_place(plan: &Plan, from: usize, t: usize) -> usize
 // A row over the places of a form, over the places of the plan.
 pub fn moved<S: Strip>(row: &S, count: usize, plan: &Plan, from: usize) -> S
     requires few { from + count ≤ 127 }
-    ensures ends { Ends plan.now.cells (code result) }
-    ensures row { plan.now.cells < len → Moved S.Codes.Scale.model count (place_of plan.now from) (code row.now) (code result) }
+    ensures ends { Ends plan.now.cells (S.code result) }
+    ensures row { plan.now.cells < S.len → Moved S.Codes.Scale.model count (place_of plan.now from) (S.code row.now) (S.code result) }
 {
     let mut v = S::blank();
     for t in 0..count + 1 {
@@ -61,10 +61,10 @@ pub fn moved<S: Strip>(row: &S, count: usize, plan: &Plan, from: usize) -> S
 pub fn clear_rows<S: Strip>(work: &mut [S], m: usize)
     requires room { 512 ≤ length work.old }
     requires few { m ≤ 127 }
-    ensures off { (h : ℕ) → h ≤ m → Rows code work.new 0 h ≡ zeros }
-    ensures dif { (h : ℕ) → h ≤ m → Rows code work.new 128 h ≡ zeros }
-    ensures bounded { Bounded code work.new m }
-    ensures beyond { Beyond code work.old work.new }
+    ensures off { (h : ℕ) → h ≤ m → Rows S.code work.new 0 h ≡ zeros }
+    ensures dif { (h : ℕ) → h ≤ m → Rows S.code work.new 128 h ≡ zeros }
+    ensures bounded { Bounded S.code work.new m }
+    ensures beyond { Beyond S.code work.old work.new }
 {
     wipe(work, OFF, m + 1);
     wipe(work, DIF, m + 1);

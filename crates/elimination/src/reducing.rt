@@ -11,14 +11,14 @@ use strip::Strip;
 // Takes from v what the rows at work[base..base + size] have at its first filled places; answers the factors used.
 pub fn reduce_with<S: Strip>(work: &[S], base: usize, size: usize, v: &mut S) -> S
     requires room { base + size ≤ length work.now }
-    requires within { size ≤ len }
-    requires shape { Echelon size (Rows code work.now base) }
-    ensures left { Reduced size (Rows code work.now base) (code v.new) }
-    ensures balance { Balance (arithmetic S.Codes.Scale.model) size (code result) (Rows code work.now base) (code v.old) (code v.new) }
-    ensures sparse { (j : ℕ) → j < size → Rows code work.now base j j ≡ 0 → code result j ≡ 0 }
-    ensures past { (p : ℕ) → size ≤ p → code result p ≡ 0 }
-    ensures later { (h p : ℕ) → First size (code v.new) h → h ≤ p → code result p ≡ 0 }
-    ensures early { (k : ℕ) → k ≤ size → ((p : ℕ) → p < k → code v.old p ≡ 0) → (p : ℕ) → p < k → (code result p ≡ 0) × (code v.new p ≡ 0) }
+    requires within { size ≤ S.len }
+    requires shape { Echelon size (Rows S.code work.now base) }
+    ensures left { Reduced size (Rows S.code work.now base) (S.code v.new) }
+    ensures balance { Balance (arithmetic S.Codes.Scale.model) size (S.code result) (Rows S.code work.now base) (S.code v.old) (S.code v.new) }
+    ensures sparse { (j : ℕ) → j < size → Rows S.code work.now base j j ≡ 0 → S.code result j ≡ 0 }
+    ensures past { (p : ℕ) → size ≤ p → S.code result p ≡ 0 }
+    ensures later { (h p : ℕ) → First size (S.code v.new) h → h ≤ p → S.code result p ≡ 0 }
+    ensures early { (k : ℕ) → k ≤ size → ((p : ℕ) → p < k → S.code v.old p ≡ 0) → (p : ℕ) → p < k → (S.code result p ≡ 0) × (S.code v.new p ≡ 0) }
 {
     let mut coef = S::blank();
     let mut h = first_in(v, size);
@@ -33,14 +33,14 @@ pub fn reduce_with<S: Strip>(work: &[S], base: usize, size: usize, v: &mut S) ->
 // Adds v to the table, unless its rows span v already.
 pub fn insert<S: Strip>(work: &mut [S], base: usize, size: usize, v: S)
     requires room { base + size ≤ length work.old }
-    requires within { size ≤ len }
-    requires shape { Echelon size (Rows code work.old base) }
-    requires inside { Inside size (Rows code work.old base) }
-    requires below { (p : ℕ) → size ≤ p → code v p ≡ 0 }
-    ensures shape { Echelon size (Rows code work.new base) }
-    ensures inside { Inside size (Rows code work.new base) }
-    ensures grows { Grows (arithmetic S.Codes.Scale.model) size (Rows code work.old base) (code v) (Rows code work.new base) }
-    ensures outside { Outside code work.old base size work.new }
+    requires within { size ≤ S.len }
+    requires shape { Echelon size (Rows S.code work.old base) }
+    requires inside { Inside size (Rows S.code work.old base) }
+    requires below { (p : ℕ) → size ≤ p → S.code v p ≡ 0 }
+    ensures shape { Echelon size (Rows S.code work.new base) }
+    ensures inside { Inside size (Rows S.code work.new base) }
+    ensures grows { Grows (arithmetic S.Codes.Scale.model) size (Rows S.code work.old base) (S.code v) (Rows S.code work.new base) }
+    ensures outside { Outside S.code work.old base size work.new }
 {
     let mut rest = v;
     let _ = reduce_with(work, base, size, &mut rest);
@@ -54,14 +54,14 @@ pub fn insert<S: Strip>(work: &mut [S], base: usize, size: usize, v: S)
 // that the table has then.
 pub fn absorb<S: Strip>(work: &mut [S], base: usize, size: usize, v: S) -> S
     requires room { base + size ≤ length work.old }
-    requires within { size ≤ len }
-    requires shape { Echelon size (Rows code work.old base) }
-    requires inside { Inside size (Rows code work.old base) }
-    requires below { (p : ℕ) → size ≤ p → code v p ≡ 0 }
-    ensures shape { Echelon size (Rows code work.new base) }
-    ensures inside { Inside size (Rows code work.new base) }
-    ensures outside { Outside code work.old base size work.new }
-    ensures absorbed { Absorbed (scalars S.Codes.Scale.model) size (Grid S.Codes.Scale.model code work.old base) (vec S.Codes.Scale.model (code v)) (vec S.Codes.Scale.model (code result)) (Grid S.Codes.Scale.model code work.new base) }
+    requires within { size ≤ S.len }
+    requires shape { Echelon size (Rows S.code work.old base) }
+    requires inside { Inside size (Rows S.code work.old base) }
+    requires below { (p : ℕ) → size ≤ p → S.code v p ≡ 0 }
+    ensures shape { Echelon size (Rows S.code work.new base) }
+    ensures inside { Inside size (Rows S.code work.new base) }
+    ensures outside { Outside S.code work.old base size work.new }
+    ensures absorbed { Absorbed (scalars S.Codes.Scale.model) size (Grid S.Codes.Scale.model S.code work.old base) (vec S.Codes.Scale.model (S.code v)) (vec S.Codes.Scale.model (S.code result)) (Grid S.Codes.Scale.model S.code work.new base) }
 {
     let mut rest = v;
     let mut coef = reduce_with(work, base, size, &mut rest);

@@ -11,7 +11,7 @@ use strip::Strip;
 // The row at i.
 pub fn row<S: Strip>(work: &[S], base: usize, i: usize) -> S
     requires room { base + i < length work.now }
-    ensures { code result ≡ Rows code work.now base i }
+    ensures { S.code result ≡ Rows S.code work.now base i }
 {
     work[base + i]
 }
@@ -19,8 +19,8 @@ pub fn row<S: Strip>(work: &[S], base: usize, i: usize) -> S
 // Puts v for the row at h.
 pub fn store<S: Strip>(work: &mut [S], base: usize, h: usize, v: S)
     requires room { base + h < length work.old }
-    ensures row { RowSet (Rows code work.old base) h (code v) (Rows code work.new base) }
-    ensures outside { (n : ℕ) → h < n → Outside code work.old base n work.new }
+    ensures row { RowSet (Rows S.code work.old base) h (S.code v) (Rows S.code work.new base) }
+    ensures outside { (n : ℕ) → h < n → Outside S.code work.old base n work.new }
 {
     work[base + h] = v;
 }
@@ -28,15 +28,15 @@ pub fn store<S: Strip>(work: &mut [S], base: usize, h: usize, v: S)
 // What the row at h holds at h.
 pub fn pivot<S: Strip>(work: &[S], base: usize, h: usize) -> u8
     requires room { base + h < length work.now }
-    ensures { result ≡ Rows code work.now base h h }
+    ensures { result ≡ Rows S.code work.now base h h }
 {
     work[base + h].ask(h)
 }
 
 // The first filled place below size, or size.
 pub fn first_in<S: Strip>(v: &S, size: usize) -> usize
-    requires within { size ≤ len }
-    ensures { First size (code v.now) result }
+    requires within { size ≤ S.len }
+    ensures { First size (S.code v.now) result }
 {
     let h = v.first();
     if h < size { h } else { size }
@@ -44,9 +44,9 @@ pub fn first_in<S: Strip>(v: &S, size: usize) -> usize
 
 // r without what it holds below e
 pub fn tail<S: Strip>(r: S, e: usize) -> S
-    requires within { e ≤ len }
-    ensures low { (p : ℕ) → p < e → code result p ≡ 0 }
-    ensures high { (p : ℕ) → e ≤ p → code result p ≡ code r p }
+    requires within { e ≤ S.len }
+    ensures low { (p : ℕ) → p < e → S.code result p ≡ 0 }
+    ensures high { (p : ℕ) → e ≤ p → S.code result p ≡ S.code r p }
 {
     let mut s = r;
     let mut p = s.first();
@@ -59,14 +59,14 @@ pub fn tail<S: Strip>(r: S, e: usize) -> S
 
 // v := v + c * t
 pub fn add_times<S: Strip>(v: &mut S, c: u8, t: &S)
-    ensures { code v.new ≡ added (arithmetic S.Codes.Scale.model) (code v.old) c (code t.now) }
+    ensures { S.code v.new ≡ added (arithmetic S.Codes.Scale.model) (S.code v.old) c (S.code t.now) }
 {
     v.add(c, t);
 }
 
 // v := v - (v[h] / row[h]) * row; answers the factor.
 pub fn clear<S: Strip>(v: &mut S, row: &S, h: usize) -> u8
-    ensures { Cleared (arithmetic S.Codes.Scale.model) (code v.old) (code row.now) h result (code v.new) }
+    ensures { Cleared (arithmetic S.Codes.Scale.model) (S.code v.old) (S.code row.now) h result (S.code v.new) }
 {
     let factor = S::Codes::product(v.ask(h), S::Codes::inverse(row.ask(h)));
     add_times(v, S::Codes::negative(factor), row);
@@ -77,7 +77,7 @@ pub fn clear<S: Strip>(v: &mut S, row: &S, h: usize) -> u8
 pub fn gather<S: Strip>(work: &[S], base: usize, r: &S, from: usize, to: usize, sum: &mut S)
     requires room { base + to ≤ length work.now }
     requires order { from ≤ to }
-    ensures { Gathered S.Codes.Scale.model (code r.now) (Grid S.Codes.Scale.model code work.now base) from to (code sum.old) (code sum.new) }
+    ensures { Gathered S.Codes.Scale.model (S.code r.now) (Grid S.Codes.Scale.model S.code work.now base) from to (S.code sum.old) (S.code sum.new) }
 {
     for t in from..to {
         let c = r.ask(t);

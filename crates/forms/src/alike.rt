@@ -22,8 +22,8 @@ pub fn same_inputs(a: &[u8; 31], b: &[u8; 31], count: usize) -> bool
 pub fn same_strips<S: Strip>(strips: &[S], a: usize, b: usize) -> bool
     requires first { a + 32 ≤ length strips.now }
     requires second { b + 32 ≤ length strips.now }
-    ensures same { T result → RowsAlike code strips.now a b 32 }
-    ensures all { RowsAlike code strips.now a b 32 → T result }
+    ensures same { T result → RowsAlike S.code strips.now a b 32 }
+    ensures all { RowsAlike S.code strips.now a b 32 → T result }
 {
     for k in 0..32 {
         if !strips[a + k].equal(&strips[b + k]) {

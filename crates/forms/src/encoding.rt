@@ -48,7 +48,7 @@ fn put_arcs<S: Strip>(
     requires few { places ≤ 32 }
     requires room { start + 4 * places ≤ 4096 }
     ensures most { result ≤ start + 4 * places }
-    ensures puts { Put out.old start (arc_bytes mark from (code row.now) places) out.new result }
+    ensures puts { Put out.old start (arc_bytes mark from (S.code row.now) places) out.new result }
 {
     let mut at = start;
     for t in 0..places {
@@ -66,7 +66,7 @@ fn put_rows<S: Strip>(form: &FormView<S>, out: &mut [u8; 4096], start: usize) ->
     requires strips { form.now.base + 32 ≤ length form.now.strips.now }
     requires room { start ≤ 124 }
     ensures most { result ≤ 3968 }
-    ensures puts { Put out.old start (row_bytes (Rows code form.now.strips.now form.now.base) form.now.count) out.new result }
+    ensures puts { Put out.old start (row_bytes (Rows S.code form.now.strips.now form.now.base) form.now.count) out.new result }
 {
     let mut at = start;
     for k in 1..form.count + 1 {
@@ -80,8 +80,8 @@ pub fn encode<S: Strip>(form: &FormView<S>, out: &mut [u8; 4096]) -> usize
     requires few { form.now.count ≤ 31 }
     requires strips { form.now.base + 32 ≤ length form.now.strips.now }
     ensures most { result ≤ 4096 }
-    ensures long { result ≡ length (form_bytes code form.now.strips.now form.now.base form.now.count form.now.inputs.now) }
-    ensures bytes { take result out.new ≡ form_bytes code form.now.strips.now form.now.base form.now.count form.now.inputs.now }
+    ensures long { result ≡ length (form_bytes S.code form.now.strips.now form.now.base form.now.count form.now.inputs.now) }
+    ensures bytes { take result out.new ≡ form_bytes S.code form.now.strips.now form.now.base form.now.count form.now.inputs.now }
 {
     let cells = put_cells(form.inputs, form.count, out);
     let rows = put_rows(form, out, cells);

@@ -13,7 +13,7 @@ use strip::Strip;
 fn weighted<S: Strip>(row: &S, values: &[u8; 32], places: usize) -> u8
     requires few { places ≤ 32 }
     ensures code { result < S.Codes.Scale.model.q }
-    ensures value { up S.Codes.Scale.model result ≡ weighed_up S.Codes.Scale.model (code row.now) places values.now }
+    ensures value { up S.Codes.Scale.model result ≡ weighed_up S.Codes.Scale.model (S.code row.now) places values.now }
 {
     let mut sum = 0;
     for t in 0..places {
@@ -33,7 +33,7 @@ fn reads_one(setting: u64, input: u8) -> bool
 fn cell_values<S: Strip>(form: &FormView<S>, setting: u64) -> [u8; 32]
     requires few { form.now.count ≤ 31 }
     requires strips { form.now.base + 32 ≤ length form.now.strips.now }
-    ensures { Valued S.Codes.Scale.model (Rows code form.now.strips.now form.now.base) form.now.count form.now.inputs.now setting result }
+    ensures { Valued S.Codes.Scale.model (Rows S.code form.now.strips.now form.now.base) form.now.count form.now.inputs.now setting result }
 {
     let mut values = [0; 32];
     values[0] = 1;
@@ -50,7 +50,7 @@ pub fn code_at<S: Strip>(form: &FormView<S>, setting: u64) -> u8
     requires few { form.now.count ≤ 31 }
     requires strips { form.now.base + 32 ≤ length form.now.strips.now }
     ensures code { result < S.Codes.Scale.model.q }
-    ensures sounds { Sounds S.Codes.Scale.model code form.now.strips.now form.now.base form.now.count form.now.inputs.now setting result }
+    ensures sounds { Sounds S.Codes.Scale.model S.code form.now.strips.now form.now.base form.now.count form.now.inputs.now setting result }
 {
     let values = cell_values(form, setting);
     weighted(&form.strips[form.base], &values, form.count + 1)

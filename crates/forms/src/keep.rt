@@ -10,7 +10,7 @@ use strip::Strip;
 pub fn keep_form<S: Strip>(strips: &mut [S], base: usize, work: &[S], form: &Form<S>)
     requires slot { base + 32 ≤ length strips.old }
     requires room { 512 ≤ length work.now }
-    ensures { Filled code strips.old base (form_rows (code form.now.out) form.now.cells (Rows code work.now 288)) strips.new }
+    ensures { Filled S.code strips.old base (form_rows (S.code form.now.out) form.now.cells (Rows S.code work.now 288)) strips.new }
 {
     strips[base] = form.out;
     for k in 1..32 {
@@ -27,7 +27,7 @@ pub fn keep_weighed<S: Strip>(strips: &mut [S], to: usize, from: usize, c: u8)
     requires target { to + 32 ≤ length strips.old }
     requires source { from + 32 ≤ length strips.old }
     requires apart { (to ≤ from) ⊎ (from + 32 ≤ to) }
-    ensures { Filled code strips.old to (weighed_rows S.Codes.Scale.model c (Rows code strips.old from)) strips.new }
+    ensures { Filled S.code strips.old to (weighed_rows S.Codes.Scale.model c (Rows S.code strips.old from)) strips.new }
 {
     let mut outlet = S::blank();
     outlet.add(c, &strips[from]);
@@ -40,7 +40,7 @@ pub fn keep_weighed<S: Strip>(strips: &mut [S], to: usize, from: usize, c: u8)
 // Makes the 32 strips from `base` on blank.
 pub fn keep_silent<S: Strip>(strips: &mut [S], base: usize)
     requires slot { base + 32 ≤ length strips.old }
-    ensures { Filled code strips.old base silent_rows strips.new }
+    ensures { Filled S.code strips.old base silent_rows strips.new }
 {
     for k in 0..32 {
         strips[base + k] = S::blank();

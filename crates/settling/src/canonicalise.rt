@@ -30,13 +30,13 @@ fn image_place<S: Strip>(work: &mut [S], m: usize, e: usize, h: usize)
     requires room { 512 ≤ length work.old }
     requires order { h < e }
     requires ends { e ≤ m }
-    requires within { m < len }
-    ensures is { Pictured S.Codes.Scale.model code work.old work.new m e h }
-    ensures img { (k : ℕ) → (k ≢ h) → Rows code work.new 384 k ≡ Rows code work.old 384 k }
-    ensures dif { (k : ℕ) → (k ≢ h) → k < 128 → Rows code work.new 128 k ≡ Rows code work.old 128 k }
-    ensures off { (k : ℕ) → k < 128 → Rows code work.new 0 k ≡ Rows code work.old 0 k }
-    ensures tab { (b k : ℕ) → 256 ≤ b + k → b + k < 384 → Rows code work.new b k ≡ Rows code work.old b k }
-    ensures beyond { Beyond code work.old work.new }
+    requires within { m < S.len }
+    ensures is { Pictured S.Codes.Scale.model S.code work.old work.new m e h }
+    ensures img { (k : ℕ) → (k ≢ h) → Rows S.code work.new 384 k ≡ Rows S.code work.old 384 k }
+    ensures dif { (k : ℕ) → (k ≢ h) → k < 128 → Rows S.code work.new 128 k ≡ Rows S.code work.old 128 k }
+    ensures off { (k : ℕ) → k < 128 → Rows S.code work.new 0 k ≡ Rows S.code work.old 0 k }
+    ensures tab { (b k : ℕ) → 256 ≤ b + k → b + k < 384 → Rows S.code work.new b k ≡ Rows S.code work.old b k }
+    ensures beyond { Beyond S.code work.old work.new }
 {
     let off = row(work, OFF, h);
     let mut rest = S::blank();
@@ -53,8 +53,8 @@ fn image_block<S: Strip>(work: &mut [S], m: usize, a: usize, e: usize)
     requires room { 512 ≤ length work.old }
     requires order { a < e }
     requires ends { e ≤ m }
-    requires within { m < len }
-    ensures { Images S.Codes.Scale.model code work.old work.new m a e e }
+    requires within { m < S.len }
+    ensures { Images S.Codes.Scale.model S.code work.old work.new m a e e }
 {
     for h in a..e {
         image_place(work, m, e, h);
@@ -65,9 +65,9 @@ fn image_block<S: Strip>(work: &mut [S], m: usize, a: usize, e: usize)
 fn mark<S: Strip>(work: &mut [S], a: usize, e: usize, k: usize, j: usize)
     requires room { 512 ≤ length work.old }
     requires order { a < e }
-    requires within { e ≤ len }
+    requires within { e ≤ S.len }
     requires small { j < 32 }
-    ensures { Marked code work.old work.new a e k j }
+    ensures { Marked S.code work.old work.new a e k j }
 {
     for h in a..e {
         let gain = row(work, DIF, h);
@@ -90,10 +90,10 @@ fn add_cell<S: Strip>(
     requires room { 512 ≤ length work.old }
     requires cells { 32 ≤ length cpos.old }
     requires order { a < e }
-    requires within { e ≤ len }
+    requires within { e ≤ S.len }
     requires head { k < 32 }
     requires small { j < 32 }
-    ensures { Added code work.old cpos.old work.new cpos.new p a e k j }
+    ensures { Added S.code work.old cpos.old work.new cpos.new p a e k j }
 {
     let t = row(work, TAB, k);
     store(work, CAN, j, t);
@@ -114,10 +114,10 @@ fn number<S: Strip>(
     requires room { 512 ≤ length work.old }
     requires cells { 32 ≤ length cpos.old }
     requires order { a < e }
-    requires within { e ≤ len }
+    requires within { e ≤ S.len }
     requires few { size ≤ 32 }
-    ensures made { MatchOption result (33 ≤ size + rows (Rows code work.old 256) size) (λ j. (j ≤ 32) × Numbered code work.old cpos.old work.new cpos.new p a e size size j) }
-    ensures beyond { Beyond code work.old work.new }
+    ensures made { MatchOption result (33 ≤ size + rows (Rows S.code work.old 256) size) (λ j. (j ≤ 32) × Numbered S.code work.old cpos.old work.new cpos.new p a e size size j) }
+    ensures beyond { Beyond S.code work.old work.new }
 {
     let mut j = size;
     for k in 0..size {
@@ -145,15 +145,15 @@ fn back_block<S: Strip>(
     requires room { 512 ≤ length work.old }
     requires places { m < length pos.now }
     requires cells { 32 ≤ length cpos.old }
-    requires within { m < len }
+    requires within { m < S.len }
     requires order { Ordered m pos.now }
     requires ends { e ≤ m }
     requires span { Span pos.now a e }
     requires edge { (v : ℕ) → v < e → slice_index pos.now v < slice_index pos.now e }
     requires few { size ≤ 32 }
-    requires cellular { Cellular code work.old m size e }
-    ensures made { MatchOption result (Exceeds S.Codes.Scale.model code pos.now m work.old cpos.old size e) (λ j. Stepped S.Codes.Scale.model code pos.now m work.old cpos.old size e work.new cpos.new j a) }
-    ensures beyond { Beyond code work.old work.new }
+    requires cellular { Cellular S.code work.old m size e }
+    ensures made { MatchOption result (Exceeds S.Codes.Scale.model S.code pos.now m work.old cpos.old size e) (λ j. Stepped S.Codes.Scale.model S.code pos.now m work.old cpos.old size e work.new cpos.new j a) }
+    ensures beyond { Beyond S.code work.old work.new }
 {
     image_block(work, m, a, e);
     reduced_form(work, TAB, size, DIF + a, e - a);
@@ -164,13 +164,13 @@ fn back_block<S: Strip>(
 fn lay_steady<S: Strip>(work: &mut [S], cpos: &mut [u8], n: u8, m: usize)
     requires room { 512 ≤ length work.old }
     requires cells { 32 ≤ length cpos.old }
-    requires within { m < len }
-    ensures cell { Rows code work.new 288 0 ≡ zeros }
+    requires within { m < S.len }
+    ensures cell { Rows S.code work.new 288 0 ≡ zeros }
     ensures position { slice_index cpos.new 0 ≡ n }
-    ensures one { Rows code work.new 384 m 0 ≡ 1 }
-    ensures none { (p : ℕ) → 1 ≤ p → Rows code work.new 384 m p ≡ 0 }
-    ensures before { (b i : ℕ) → b + i < 256 → Rows code work.new b i ≡ Rows code work.old b i }
-    ensures beyond { Beyond code work.old work.new }
+    ensures one { Rows S.code work.new 384 m 0 ≡ 1 }
+    ensures none { (p : ℕ) → 1 ≤ p → Rows S.code work.new 384 m p ≡ 0 }
+    ensures before { (b i : ℕ) → b + i < 256 → Rows S.code work.new b i ≡ Rows S.code work.old b i }
+    ensures beyond { Beyond S.code work.old work.new }
 {
     store(work, CAN, 0, S::blank());
     cpos[0] = n;
@@ -184,11 +184,11 @@ fn back_all<S: Strip>(work: &mut [S], pos: &[u8], cpos: &mut [u8], m: usize) -> 
     requires room { 512 ≤ length work.old }
     requires places { m < length pos.now }
     requires cells { 32 ≤ length cpos.old }
-    requires within { m < len }
+    requires within { m < S.len }
     requires order { Ordered m pos.now }
-    requires cellular { Cellular code work.old m 1 m }
-    ensures made { MatchOption result (Exceeds S.Codes.Scale.model code pos.now m work.old cpos.old 1 m) (λ j. Stepped S.Codes.Scale.model code pos.now m work.old cpos.old 1 m work.new cpos.new j 0) }
-    ensures beyond { Beyond code work.old work.new }
+    requires cellular { Cellular S.code work.old m 1 m }
+    ensures made { MatchOption result (Exceeds S.Codes.Scale.model S.code pos.now m work.old cpos.old 1 m) (λ j. Stepped S.Codes.Scale.model S.code pos.now m work.old cpos.old 1 m work.new cpos.new j 0) }
+    ensures beyond { Beyond S.code work.old work.new }
 {
     let mut e = m;
     let mut size = 1;
@@ -206,11 +206,11 @@ fn back_all<S: Strip>(work: &mut [S], pos: &[u8], cpos: &mut [u8], m: usize) -> 
 // Backward: the canonical diagram of the same rule, or none of at most 31 cells has it.
 pub fn canonicalise<S: Strip>(work: &mut [S], d: &Draft<S>) -> Result<Form<S>, TooMany>
     requires room { 512 ≤ length work.old }
-    requires within { d.now.cells < len }
+    requires within { d.now.cells < S.len }
     requires order { Ordered d.now.cells d.now.pos }
     ensures few { IfOk result (λ v. v.cells ≤ 31) }
-    ensures settled { DerivesDraft S.Codes.Scale.model code work.old d.now → Settled S.Codes.Scale.model code (positions d.now) (rule_of S.Codes.Scale.model code work.old d.now) work.new result }
-    ensures beyond { Beyond code work.old work.new }
+    ensures settled { DerivesDraft S.Codes.Scale.model S.code work.old d.now → Settled S.Codes.Scale.model S.code (positions d.now) (rule_of S.Codes.Scale.model S.code work.old d.now) work.new result }
+    ensures beyond { Beyond S.code work.old work.new }
 {
     let m = d.cells;
     let mut pos = [0; 32];

@@ -18,10 +18,10 @@ pub mod trim;
 // cells has that rule. Strips from 512 on are left as they are.
 pub fn settle<S: Strip>(work: &mut [S], d: &mut Draft<S>) -> Result<Form<S>, TooMany>
     requires room { 512 ≤ length work.old }
-    requires sound { Sound code len work.old d.old }
+    requires sound { Sound S.code S.len work.old d.old }
     ensures few { IfOk result (λ v. v.cells ≤ 31) }
-    ensures settled { FormedDraft S.Codes.Scale.model code work.old d.old → Settled S.Codes.Scale.model code (positions d.old) (rule_of S.Codes.Scale.model code work.old d.old) work.new result }
-    ensures beyond { Beyond code work.old work.new }
+    ensures settled { FormedDraft S.Codes.Scale.model S.code work.old d.old → Settled S.Codes.Scale.model S.code (positions d.old) (rule_of S.Codes.Scale.model S.code work.old d.old) work.new result }
+    ensures beyond { Beyond S.code work.old work.new }
 {
     trim::trim(work, d);
     canonicalise::canonicalise(work, d)

@@ -31,8 +31,8 @@ fn block_end(pos: &[u8], m: usize, h: usize) -> usize
 fn rest_of<S: Strip>(work: &[S], h: usize, e: usize) -> S
     requires room { 512 ≤ length work.now }
     requires order { h < e }
-    requires within { e ≤ len }
-    ensures { Rest S.Codes.Scale.model code work.now h e (code result) }
+    requires within { e ≤ S.len }
+    ensures { Rest S.Codes.Scale.model S.code work.now h e (S.code result) }
 {
     let r = row(work, ROW, h);
     let mut o = tail(r, e);
@@ -44,8 +44,8 @@ fn rest_of<S: Strip>(work: &[S], h: usize, e: usize) -> S
 fn gain_of<S: Strip>(work: &[S], h: usize, e: usize) -> S
     requires room { 512 ≤ length work.now }
     requires order { h < e }
-    requires within { e ≤ len }
-    ensures { Gain S.Codes.Scale.model code work.now h e (code result) }
+    requires within { e ≤ S.len }
+    ensures { Gain S.Codes.Scale.model S.code work.now h e (S.code result) }
 {
     let r = row(work, ROW, h);
     let mut d = S::blank();
@@ -57,13 +57,13 @@ fn gain_of<S: Strip>(work: &[S], h: usize, e: usize) -> S
 fn split_place<S: Strip>(work: &mut [S], pos: &[u8], m: usize, h: usize)
     requires room { 512 ≤ length work.old }
     requires places { m < length pos.now }
-    requires within { m < len }
+    requires within { m < S.len }
     requires below { h < m }
     requires order { Ordered m pos.now }
-    requires tables { Tables code work.old m }
-    ensures tables { Tables code work.new m }
-    ensures step { Advances S.Codes.Scale.model code pos.now m work.old h work.new (h + 1) }
-    ensures beyond { Beyond code work.old work.new }
+    requires tables { Tables S.code work.old m }
+    ensures tables { Tables S.code work.new m }
+    ensures step { Advances S.Codes.Scale.model S.code pos.now m work.old h work.new (h + 1) }
+    ensures beyond { Beyond S.code work.old work.new }
 {
     let e = block_end(pos, m, h);
     let o = rest_of(work, h, e);
@@ -77,13 +77,13 @@ fn split_place<S: Strip>(work: &mut [S], pos: &[u8], m: usize, h: usize)
 // A place whose row is blank, since it is not reached from the rule, gets blank rows.
 fn blank_place<S: Strip>(work: &mut [S], m: usize, h: usize)
     requires room { 512 ≤ length work.old }
-    requires within { m < len }
+    requires within { m < S.len }
     requires below { h < m }
-    requires tables { Tables code work.old m }
-    requires blank { Rows code work.old 256 h h ≡ 0 }
-    ensures tables { Tables code work.new m }
-    ensures step { (pos : List ℕ) → Ordered m pos → Advances S.Codes.Scale.model code pos m work.old h work.new (h + 1) }
-    ensures beyond { Beyond code work.old work.new }
+    requires tables { Tables S.code work.old m }
+    requires blank { Rows S.code work.old 256 h h ≡ 0 }
+    ensures tables { Tables S.code work.new m }
+    ensures step { (pos : List ℕ) → Ordered m pos → Advances S.Codes.Scale.model S.code pos m work.old h work.new (h + 1) }
+    ensures beyond { Beyond S.code work.old work.new }
 {
     store(work, OFF, h, S::blank());
     store(work, DIF, h, S::blank());
@@ -93,13 +93,13 @@ fn blank_place<S: Strip>(work: &mut [S], m: usize, h: usize)
 fn trim_place<S: Strip>(work: &mut [S], pos: &[u8], m: usize, h: usize)
     requires room { 512 ≤ length work.old }
     requires places { m < length pos.now }
-    requires within { m < len }
+    requires within { m < S.len }
     requires below { h < m }
     requires order { Ordered m pos.now }
-    requires tables { Tables code work.old m }
-    ensures tables { Tables code work.new m }
-    ensures step { Advances S.Codes.Scale.model code pos.now m work.old h work.new (h + 1) }
-    ensures beyond { Beyond code work.old work.new }
+    requires tables { Tables S.code work.old m }
+    ensures tables { Tables S.code work.new m }
+    ensures step { Advances S.Codes.Scale.model S.code pos.now m work.old h work.new (h + 1) }
+    ensures beyond { Beyond S.code work.old work.new }
 {
     if pivot(work, ROW, h) == 0 {
         blank_place(work, m, h);
@@ -112,12 +112,12 @@ fn trim_place<S: Strip>(work: &mut [S], pos: &[u8], m: usize, h: usize)
 fn trim_places<S: Strip>(work: &mut [S], pos: &[u8], m: usize)
     requires room { 512 ≤ length work.old }
     requires places { m < length pos.now }
-    requires within { m < len }
+    requires within { m < S.len }
     requires order { Ordered m pos.now }
-    requires tables { Tables code work.old m }
-    ensures tables { Tables code work.new m }
-    ensures step { Advances S.Codes.Scale.model code pos.now m work.old 0 work.new m }
-    ensures beyond { Beyond code work.old work.new }
+    requires tables { Tables S.code work.old m }
+    ensures tables { Tables S.code work.new m }
+    ensures step { Advances S.Codes.Scale.model S.code pos.now m work.old 0 work.new m }
+    ensures beyond { Beyond S.code work.old work.new }
 {
     for h in 0..m {
         trim_place(work, pos, m, h);
@@ -127,12 +127,12 @@ fn trim_places<S: Strip>(work: &mut [S], pos: &[u8], m: usize)
 // A table with the steady place's row alone.
 fn steady_table<S: Strip>(work: &mut [S], m: usize)
     requires room { 512 ≤ length work.old }
-    requires within { m < len }
-    requires bounded { Bounded code work.old m }
-    ensures tables { Tables code work.new m }
-    ensures one { Rows code work.new 256 m m ≡ 1 }
-    ensures blank { (h : ℕ) → h < m → Rows code work.new 256 h ≡ zeros }
-    ensures outside { Outside code work.old 256 (m + 1) work.new }
+    requires within { m < S.len }
+    requires bounded { Bounded S.code work.old m }
+    ensures tables { Tables S.code work.new m }
+    ensures one { Rows S.code work.new 256 m m ≡ 1 }
+    ensures blank { (h : ℕ) → h < m → Rows S.code work.new 256 h ≡ zeros }
+    ensures outside { Outside S.code work.old 256 (m + 1) work.new }
 {
     wipe(work, ROW, m + 1);
     let mut unit = S::blank();
@@ -143,11 +143,11 @@ fn steady_table<S: Strip>(work: &mut [S], m: usize)
 // Forward: the same rule, by places that are reached from it.
 pub fn trim<S: Strip>(work: &mut [S], d: &mut Draft<S>)
     requires room { 512 ≤ length work.old }
-    requires sound { Sound code len work.old d.old }
+    requires sound { Sound S.code S.len work.old d.old }
     ensures cells { d.new.cells ≡ d.old.cells }
     ensures pos { d.new.pos ≡ d.old.pos }
-    ensures trimmed { FormedDraft S.Codes.Scale.model code work.old d.old → TrimmedDraft S.Codes.Scale.model code work.old d.old work.new d.new }
-    ensures beyond { Beyond code work.old work.new }
+    ensures trimmed { FormedDraft S.Codes.Scale.model S.code work.old d.old → TrimmedDraft S.Codes.Scale.model S.code work.old d.old work.new d.new }
+    ensures beyond { Beyond S.code work.old work.new }
 {
     let m = d.cells;
     steady_table(work, m);

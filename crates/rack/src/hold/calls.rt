@@ -39,7 +39,7 @@ fn describe<S: Strip>(slot: &mut Slot, form: &Form<S>, order: &ScanOrder)
 // Settles a draft, or refuses it for its cells.
 fn settled<S: Strip>(work: &mut [S], draft: &mut Draft<S>) -> Result<Form<S>, Refusal>
     requires room { 512 ≤ length work.old }
-    requires sound { Sound code len work.old draft.old }
+    requires sound { Sound S.code S.len work.old draft.old }
     ensures { IfOk result (λ v. v.cells ≤ 31) }
 {
     match settle(work, draft) {
@@ -54,7 +54,7 @@ fn sum_draft<S: Strip>(strips: &[S], desk: &Desk, a: usize, b: usize, work: &mut
     requires second { b < 16 }
     requires strips { 512 ≤ length strips.now }
     requires room { 512 ≤ length work.old }
-    ensures { Sound code len work.new result }
+    ensures { Sound S.code S.len work.new result }
 {
     let first = descriptor(desk, a);
     let second = descriptor(desk, b);
@@ -85,7 +85,7 @@ fn tied_draft<S: Strip>(
     requires slot { a < 16 }
     requires strips { 512 ≤ length strips.now }
     requires room { 512 ≤ length work.old }
-    ensures { Sound code len work.new result }
+    ensures { Sound S.code S.len work.new result }
 {
     let slot = descriptor(desk, a);
     let form = FormView {

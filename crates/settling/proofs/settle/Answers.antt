@@ -9,7 +9,7 @@ use Rattle.settling.proofs.settle.Goals as goal
 pub returns : goal.returns
 returns g c =
     let s = g.S.Strip in
-    let M = g.Codes.Scale.model in
+    let M = g.S.Codes.Scale.model in
     let w = c.canonicalise.new.work in
     let r = c.canonicalise.result in
     let f : Assignment → Element M = rule_of M s.code c.trim.new.work c.trim.new.d in

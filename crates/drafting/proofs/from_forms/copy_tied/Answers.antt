@@ -12,7 +12,7 @@ loop-j-init g c = (c.requires.bounded, none_copied _ _ _ _ _ _ _ _ _, none_copie
 
 pub loop-j-preserved : goal.loop-j-preserved
 loop-j-preserved g c =
-    let M = g.Codes.Scale.model in
+    let M = g.S.Codes.Scale.model in
     let code = g.S.Strip.code in
     let len = g.S.Strip.len in
     let form = c.args.form.now in
@@ -49,7 +49,7 @@ loop-j-preserved g c =
 
 pub returns : goal.returns
 returns g c =
-    let M = g.Codes.Scale.model in
+    let M = g.S.Codes.Scale.model in
     let code = g.S.Strip.code in
     let form = c.args.form.now in
     let e : c.loop-j.j ≡ form.count + 1 = omega arith in

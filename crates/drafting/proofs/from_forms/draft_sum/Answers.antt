@@ -10,7 +10,7 @@ use Rattle.drafting.proofs.from_forms.draft_sum.Goals as goal
 
 pub returns : goal.returns
 returns g c =
-    let M = g.Codes.Scale.model in
+    let M = g.S.Codes.Scale.model in
     let F = scalars M in
     let code = g.S.Strip.code in
     let a = c.args.a.now in

@@ -7,7 +7,7 @@ use Rattle.drafting.proofs.from_forms.draft_tied.Goals as goal
 
 pub returns : goal.returns
 returns g c =
-    let M = g.Codes.Scale.model in
+    let M = g.S.Codes.Scale.model in
     let code = g.S.Strip.code in
     let form = c.args.form.now in
     let ps = c.form_positions.new.positions in

@@ -14,7 +14,7 @@ returns-in-Off g c = record {
       _ _ _ _ c.add_in-in-Off.ensures.row c.add_in-in-Off.ensures.outside c.cell_place-t.ensures.within;
   outlet = c.requires.outlet;
   entered =
-      entered_off g.Codes.Scale.model g.S.Strip.code g.met.S.Strip.coded g.S.Strip.len (spots c.args.plan.now) (meant c.args.entry) c.requires.coded c.cell_place-t.result
+      entered_off g.S.Codes.Scale.model g.S.Strip.code g.met.S.Strip.coded g.S.Strip.len (spots c.args.plan.now) (meant c.args.entry) c.requires.coded c.cell_place-t.result
       (omega (arith, c.cell_place-t.ensures.within, c.requires.within)) c.cell_place-h.result (omega (arith, c.cell_place-h.ensures.within, c.args.plan.now.few)) _
       c.in-Off.from c.in-Off.to c.in-Off.c c.cell_place-h.ensures.is c.cell_place-t.ensures.is (ap meant c.in-Off.is) _ _ _ c.negative.result c.negative.ensures
       (c.add_in.ensures.row, c.add_in.ensures.outside) (c.add_in-in-Off.ensures.row, c.add_in-in-Off.ensures.outside);
@@ -27,7 +27,7 @@ returns-in-On g c = record {
       _ _ _ _ c.add_in-in-On.ensures.row c.add_in-in-On.ensures.outside c.cell_place-t-in-On.ensures.within;
   outlet = c.requires.outlet;
   entered =
-      entered_on g.Codes.Scale.model g.S.Strip.code g.met.S.Strip.coded g.S.Strip.len (spots c.args.plan.now) (meant c.args.entry) c.requires.coded c.cell_place-t-in-On.result
+      entered_on g.S.Codes.Scale.model g.S.Strip.code g.met.S.Strip.coded g.S.Strip.len (spots c.args.plan.now) (meant c.args.entry) c.requires.coded c.cell_place-t-in-On.result
       (omega (arith, c.cell_place-t-in-On.ensures.within, c.requires.within)) c.cell_place-h-in-On.result (omega (arith, c.cell_place-h-in-On.ensures.within, c.args.plan.now.few)) _
       c.in-On.from c.in-On.to c.in-On.c c.cell_place-h-in-On.ensures.is c.cell_place-t-in-On.ensures.is (ap meant c.in-On.is) _ _
       (c.add_in-in-On.ensures.row, c.add_in-in-On.ensures.outside);
@@ -38,7 +38,7 @@ returns-in-Outlet g c = record {
   bounded = c.requires.bounded;
   outlet = λ p l. c.add_at.ensures.rest p (λ e. omega (arith, c.cell_place.ensures.within)) ∙ c.requires.outlet p l;
   entered =
-      entered_outlet g.Codes.Scale.model g.S.Strip.code g.met.S.Strip.coded g.S.Strip.len (spots c.args.plan.now) (meant c.args.entry) c.requires.coded c.cell_place.result
+      entered_outlet g.S.Codes.Scale.model g.S.Strip.code g.met.S.Strip.coded g.S.Strip.len (spots c.args.plan.now) (meant c.args.entry) c.requires.coded c.cell_place.result
       (omega (arith, c.cell_place.ensures.within, c.requires.within)) c.in-Outlet.to c.in-Outlet.c (ap meant c.in-Outlet.is) c.cell_place.ensures.is c.args.work.now _ _
       c.add_at.ensures (g.met.S.Strip.coded c.args.out.now);
 }
@@ -48,9 +48,9 @@ returns-in-Filler g c = record {
   bounded = c.requires.bounded;
   outlet = c.requires.outlet;
   entered =
-      subst (λ (r : Record). Entered g.Codes.Scale.model g.S.Strip.code (spots c.args.plan.now) r c.args.work.now (g.S.Strip.code c.args.out.now) c.args.work.now (g.S.Strip.code c.args.out.now))
+      subst (λ (r : Record). Entered g.S.Codes.Scale.model g.S.Strip.code (spots c.args.plan.now) r c.args.work.now (g.S.Strip.code c.args.out.now) c.args.work.now (g.S.Strip.code c.args.out.now))
       (sym (ap meant c.in-Filler.is)) (
-      enter_filler g.Codes.Scale.model g.S.Strip.code g.met.S.Strip.coded g.S.Strip.len (spots c.args.plan.now) c.args.work.now (g.S.Strip.code c.args.out.now));
+      enter_filler g.S.Codes.Scale.model g.S.Strip.code g.met.S.Strip.coded g.S.Strip.len (spots c.args.plan.now) c.args.work.now (g.S.Strip.code c.args.out.now));
 }
 
 pub returns-in-Cell : goal.returns-in-Cell
@@ -58,7 +58,7 @@ returns-in-Cell g c = record {
   bounded = c.requires.bounded;
   outlet = c.requires.outlet;
   entered =
-      subst (λ (r : Record). Entered g.Codes.Scale.model g.S.Strip.code (spots c.args.plan.now) r c.args.work.now (g.S.Strip.code c.args.out.now) c.args.work.now (g.S.Strip.code c.args.out.now))
+      subst (λ (r : Record). Entered g.S.Codes.Scale.model g.S.Strip.code (spots c.args.plan.now) r c.args.work.now (g.S.Strip.code c.args.out.now) c.args.work.now (g.S.Strip.code c.args.out.now))
       (sym (ap meant c.in-Cell.is)) (
-      enter_cell g.Codes.Scale.model g.S.Strip.code g.met.S.Strip.coded g.S.Strip.len (spots c.args.plan.now) c.in-Cell.field-0 c.args.work.now (g.S.Strip.code c.args.out.now));
+      enter_cell g.S.Codes.Scale.model g.S.Strip.code g.met.S.Strip.coded g.S.Strip.len (spots c.args.plan.now) c.in-Cell.field-0 c.args.work.now (g.S.Strip.code c.args.out.now));
 }

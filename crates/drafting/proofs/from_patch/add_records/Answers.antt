@@ -14,14 +14,14 @@ pub loop-k-init : goal.loop-k-init
 loop-k-init g c = record {
   bounded = c.requires.bounded;
   outlet = λ p l. ap (λ (r : Row). r p) c.blank-out.ensures;
-  summed = summed_none g.Codes.Scale.model g.S.Strip.code _ _ _ _ _ c.requires.off c.requires.dif c.blank-out.ensures;
+  summed = summed_none g.S.Codes.Scale.model g.S.Strip.code _ _ _ _ _ c.requires.off c.requires.dif c.blank-out.ensures;
   beyond = λ b k l. refl;
 }
 
 pub add_record-requires : goal.add_record-requires
 add_record-requires g c =
     let patch = c.args.patch.now in
-    let some : 0 < patch.codes = omega (arith, c.requires.codes, some_code g.Codes.Scale.model) in
+    let some : 0 < patch.codes = omega (arith, c.requires.codes, some_code g.S.Codes.Scale.model) in
     let low : code (meant c.record.result) < patch.codes =
     record_code patch.order patch.places patch.codes (seen patch) some patch.admitted c.loop-k.k (meant c.record.result) c.record.ensures in
     record {
@@ -37,7 +37,7 @@ loop-k-preserved g c = record {
   bounded = c.add_record.ensures.bounded;
   outlet = c.add_record.ensures.outlet;
   summed =
-      summed_more g.Codes.Scale.model g.S.Strip.code (spots c.args.plan.now) (records (seen c.args.patch.now)) c.args.plan.now.cells c.args.plan.now.few c.loop-k.k
+      summed_more g.S.Codes.Scale.model g.S.Strip.code (spots c.args.plan.now) (records (seen c.args.patch.now)) c.args.plan.now.cells c.args.plan.now.few c.loop-k.k
       (meant c.record.result) c.record.ensures _ _ _ _ c.add_record.ensures.entered c.loop-k.invariant.summed;
   beyond = λ b k l. c.add_record.ensures.entered.beyond b k l ∙ c.loop-k.invariant.beyond b k l;
 }
@@ -49,7 +49,7 @@ returns g c =
       bounded = c.loop-k.invariant.bounded;
       outlet = c.loop-k.invariant.outlet;
       summed =
-          subst (λ (k : ℕ). Summed g.Codes.Scale.model g.S.Strip.code (spots c.args.plan.now) (records (seen c.args.patch.now)) k c.args.plan.now.cells c.loop-k.work (g.S.Strip.code c.loop-k.out)) e
+          subst (λ (k : ℕ). Summed g.S.Codes.Scale.model g.S.Strip.code (spots c.args.plan.now) (records (seen c.args.patch.now)) k c.args.plan.now.cells c.loop-k.work (g.S.Strip.code c.loop-k.out)) e
           c.loop-k.invariant.summed;
       beyond = c.loop-k.invariant.beyond;
     }

@@ -11,6 +11,6 @@ invariant-loop-k g l =
     record {
       bounded : Bounded s.code l.work l.plan.cells;
       outlet : Ends l.plan.cells (s.code l.out);
-      summed : Summed g.Codes.Scale.model s.code (spots l.plan) (records (seen l.patch)) l.k l.plan.cells l.work (s.code l.out);
+      summed : Summed g.S.Codes.Scale.model s.code (spots l.plan) (records (seen l.patch)) l.k l.plan.cells l.work (s.code l.out);
       beyond : Beyond s.code l.initial.work l.work;
     }

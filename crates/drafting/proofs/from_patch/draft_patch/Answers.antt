@@ -11,7 +11,7 @@ use Rattle.drafting.proofs.from_patch.draft_patch.Goals as goal
 
 pub returns : goal.returns
 returns g c =
-    let M = g.Codes.Scale.model in
+    let M = g.S.Codes.Scale.model in
     let patch = c.args.patch.now in
     let plan = c.place_cells-plan.result in
     let ps = c.cell_positions-count.new.positions in

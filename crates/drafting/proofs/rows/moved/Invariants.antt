@@ -8,6 +8,6 @@ use Rattle.drafting.proofs.rows.moved.Given as goal
 abbrev pub invariant-loop-t : goal.invariant-loop-t
 invariant-loop-t g l =
     let s = g.S.Strip in
-    let M = g.Codes.Scale.model in
+    let M = g.S.Codes.Scale.model in
     Ends l.plan.cells (s.code l.v)
     × (l.plan.cells < s.len → (u : ℕ) → vec M (s.code l.v) u ≡ along (scalars M) l.t (place_of l.plan l.from) (vec M (s.code l.row)) u)

@@ -9,7 +9,7 @@ use Rattle.elimination.proofs.reduced_form.clear_column.Goals as goal
 pub loop-k-preserved : goal.loop-k-preserved
 loop-k-preserved g c =
     let s = g.S.Strip in
-    let F = arithmetic g.Codes.Scale.model in
+    let F = arithmetic g.S.Codes.Scale.model in
     let base = c.args.base in
     let h = c.args.h in
     let k = c.loop-k.k in

@@ -7,6 +7,6 @@ abbrev pub invariant-loop-k : goal.invariant-loop-k
 invariant-loop-k g l =
     let s = g.S.Strip in
     record {
-      swept : Swept (arithmetic g.Codes.Scale.model) l.k l.h (Rows s.code l.initial.work l.base) (Rows s.code l.work l.base);
+      swept : Swept (arithmetic g.S.Codes.Scale.model) l.k l.h (Rows s.code l.initial.work l.base) (Rows s.code l.work l.base);
       outside : (n : ℕ) → l.h ≤ n → Outside s.code l.initial.work l.base n l.work;
     }

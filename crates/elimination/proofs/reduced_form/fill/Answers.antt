@@ -12,7 +12,7 @@ loop-i-init g c =
     record {
       shape = record { low = λ h p l _. blank h p l; blank = λ h p l _. blank h p l };
       inside = λ h p l _. blank h p l;
-      span = spans_none (arithmetic g.Codes.Scale.model) _ _ _ blank;
+      span = spans_none (arithmetic g.S.Codes.Scale.model) _ _ _ blank;
       outside = record { before = λ _ _ _. refl; after = λ _ _ _. refl };
     }
 
@@ -32,7 +32,7 @@ loop-i-preserved g c =
     record {
       shape = c.insert.ensures.shape;
       inside = c.insert.ensures.inside;
-      span = spans_more (arithmetic g.Codes.Scale.model) i _ c.args.size _ _ _ row c.loop-i.invariant.span c.insert.ensures.grows;
+      span = spans_more (arithmetic g.S.Codes.Scale.model) i _ c.args.size _ _ _ row c.loop-i.invariant.span c.insert.ensures.grows;
       outside = outside_trans s.code w₀ w _ c.args.base c.args.size c.loop-i.invariant.outside c.insert.ensures.outside;
     }
 

@@ -10,6 +10,6 @@ invariant-loop-i g l =
     record {
       shape : Echelon l.size R;
       inside : Inside l.size R;
-      span : SpansAs (arithmetic g.Codes.Scale.model) l.i (Rows s.code l.initial.work l.from) l.size R;
+      span : SpansAs (arithmetic g.S.Codes.Scale.model) l.i (Rows s.code l.initial.work l.from) l.size R;
       outside : Outside s.code l.initial.work l.base l.size l.work;
     }

@@ -8,7 +8,7 @@ use Rattle.elimination.proofs.reduced_form.reduced_form.Goals as goal
 pub returns : goal.returns
 returns g c =
     let s = g.S.Strip in
-    let F = arithmetic g.Codes.Scale.model in
+    let F = arithmetic g.S.Codes.Scale.model in
     let base = c.args.base in
     let from = c.args.from in
     let w₀ = c.args.work.now in

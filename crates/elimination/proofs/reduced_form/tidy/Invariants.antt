@@ -9,6 +9,6 @@ invariant-loop-h g l =
     record {
       shape : Echelon l.size R;
       tidy : Tidy l.h l.size R;
-      span : SameSpan (arithmetic g.Codes.Scale.model) l.size (Rows s.code l.initial.work l.base) R;
+      span : SameSpan (arithmetic g.S.Codes.Scale.model) l.size (Rows s.code l.initial.work l.base) R;
       outside : Outside s.code l.initial.work l.base l.size l.work;
     }

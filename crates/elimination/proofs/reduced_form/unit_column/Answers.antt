@@ -10,7 +10,7 @@ use Rattle.elimination.proofs.reduced_form.unit_column.Goals as goal
 pub returns-then-pivot-ne0 : goal.returns-then-pivot-ne0
 returns-then-pivot-ne0 g c =
     let s = g.S.Strip in
-    let F = arithmetic g.Codes.Scale.model in
+    let F = arithmetic g.S.Codes.Scale.model in
     let n = c.args.size in
     let base = c.args.base in
     let h = c.args.h in
@@ -39,7 +39,7 @@ returns-then-pivot-ne0 g c =
 pub returns-else-pivot-ne0 : goal.returns-else-pivot-ne0
 returns-else-pivot-ne0 g c =
     let s = g.S.Strip in
-    let F = arithmetic g.Codes.Scale.model in
+    let F = arithmetic g.S.Codes.Scale.model in
     let base = c.args.base in
     let h = c.args.h in
     let w = c.args.work.now in

@@ -10,7 +10,7 @@ use Rattle.elimination.proofs.reduced_form.unit_head.Goals as goal
 pub returns : goal.returns
 returns g c =
     let s = g.S.Strip in
-    let M = g.Codes.Scale.model in
+    let M = g.S.Codes.Scale.model in
     let F = arithmetic M in
     let work = c.args.work.now in
     let base = c.args.base in

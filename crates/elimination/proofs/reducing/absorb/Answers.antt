@@ -13,7 +13,7 @@ use Rattle.elimination.proofs.reducing.absorb.Goals as goal
 pub returns-then-h-size : goal.returns-then-h-size
 returns-then-h-size g c =
     let s = g.S.Strip in
-    let M = g.Codes.Scale.model in
+    let M = g.S.Codes.Scale.model in
     let F = arithmetic M in
     let size = c.args.size in
     let work = c.args.work.now in
@@ -41,7 +41,7 @@ returns-then-h-size g c =
 pub returns-else-h-size : goal.returns-else-h-size
 returns-else-h-size g c =
     let s = g.S.Strip in
-    let M = g.Codes.Scale.model in
+    let M = g.S.Codes.Scale.model in
     let F = arithmetic M in
     let size = c.args.size in
     let work = c.args.work.now in

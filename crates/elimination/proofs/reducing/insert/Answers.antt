@@ -10,7 +10,7 @@ use Rattle.elimination.proofs.reducing.insert.Goals as goal
 pub returns-then-h-size : goal.returns-then-h-size
 returns-then-h-size g c =
     let s = g.S.Strip in
-    let F = arithmetic g.Codes.Scale.model in
+    let F = arithmetic g.S.Codes.Scale.model in
     let size = c.args.size in
     let work = c.args.work.now in
     let base = c.args.base in
@@ -32,7 +32,7 @@ returns-then-h-size g c =
 pub returns-else-h-size : goal.returns-else-h-size
 returns-else-h-size g c =
     let s = g.S.Strip in
-    let F = arithmetic g.Codes.Scale.model in
+    let F = arithmetic g.S.Codes.Scale.model in
     let size = c.args.size in
     let work = c.args.work.now in
     let base = c.args.base in

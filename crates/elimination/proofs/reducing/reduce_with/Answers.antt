@@ -11,7 +11,7 @@ use Rattle.elimination.proofs.reducing.reduce_with.Goals as goal
 pub loop-h-init : goal.loop-h-init
 loop-h-init g c =
     let s = g.S.Strip in
-    let F = arithmetic g.Codes.Scale.model in
+    let F = arithmetic g.S.Codes.Scale.model in
     let blank : (p : ℕ) → s.code c.blank-coef.result p ≡ 0 = λ p. ap (λ (f : Row). f p) c.blank-coef.ensures in
     record {
       first = c.first_in-h.ensures;
@@ -38,13 +38,13 @@ module _ (g : given.Over) (c : goal.After-first_in-h-in-loop-h g) where
   unfolding R
   filled e = c.if-pivot-ne0.true (c.pivot.ensures ∙ e)
 
-  step : Cleared (arithmetic g.Codes.Scale.model) (g.S.Strip.code c.loop-h.v) (R c.loop-h.h) c.loop-h.h c.clear-factor.result (g.S.Strip.code c.clear-factor.new.v)
+  step : Cleared (arithmetic g.S.Codes.Scale.model) (g.S.Strip.code c.loop-h.v) (R c.loop-h.h) c.loop-h.h c.clear-factor.result (g.S.Strip.code c.clear-factor.new.v)
   unfolding R
   step = rw (rows_read g.S.Strip.code c.args.work.now c.args.base c.loop-h.h _ (omega arith) c.index-work-base.is) c.clear-factor.ensures
 
 pub loop-h-smaller : goal.loop-h-smaller
 loop-h-smaller g c =
-    let F = arithmetic g.Codes.Scale.model in
+    let F = arithmetic g.S.Codes.Scale.model in
     let up = rises F c.args.size (R g c) c.loop-h.h (below g c) (shape g c) (filled g c)
     (g.S.Strip.code c.loop-h.v) _ _ c.first_in-h-in-loop-h.result c.loop-h.invariant.first (step g c) c.first_in-h-in-loop-h.ensures in
     omega arith
@@ -52,7 +52,7 @@ loop-h-smaller g c =
 pub loop-h-preserved : goal.loop-h-preserved
 unfolding R
 loop-h-preserved g c =
-    let F = arithmetic g.Codes.Scale.model in
+    let F = arithmetic g.S.Codes.Scale.model in
     let s = g.S.Strip in
     let up = rises F c.args.size (R g c) c.loop-h.h (below g c) (shape g c) (filled g c)
     (g.S.Strip.code c.loop-h.v) _ _ c.first_in-h-in-loop-h.result c.loop-h.invariant.first (step g c) c.first_in-h-in-loop-h.ensures in

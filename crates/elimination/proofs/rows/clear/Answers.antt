@@ -7,7 +7,7 @@ use Rattle.elimination.proofs.rows.clear.Goals as goal
 
 pub returns : goal.returns
 returns g c =
-    let M = g.Codes.Scale.model in
+    let M = g.S.Codes.Scale.model in
     let F = arithmetic M in
     let code = g.S.Strip.code in
     let v = c.args.v.now in

@@ -14,7 +14,7 @@ use Rattle.elimination.proofs.rows.gather.Goals.{then-c-ne0, else-c-ne0}
 pub loop-t-init : goal.loop-t-init
 unfolding fold
 loop-t-init g c p =
-    let M = g.Codes.Scale.model in
+    let M = g.S.Codes.Scale.model in
     let none : c.args.from - c.args.from ≡ 0 = omega arith in
     rw none (sym ((scalars M).plus_zero _))
 
@@ -22,7 +22,7 @@ pub loop-t-preserved : goal.loop-t-preserved
 unfolding fold
 loop-t-preserved g c p =
     let s = g.S.Strip in
-    let M = g.Codes.Scale.model in
+    let M = g.S.Codes.Scale.model in
     let t = c.loop-t.t in
     let from = c.args.from in
     let from_in : from ≤ t = omega arith in

@@ -10,7 +10,7 @@ pub loop-p-smaller : goal.loop-p-smaller
 loop-p-smaller g c =
     let s = g.S.Strip in
     let later : c.loop-p.p < c.first-p-in-loop-p.result =
-    first_rises s.len _ _ c.loop-p.p _ (omega arith) c.loop-p.invariant.first (c.put.ensures.here (omega arith) (zero_in g.Codes.Scale.model)) c.put.ensures.rest c.first-p-in-loop-p.ensures in
+    first_rises s.len _ _ c.loop-p.p _ (omega arith) c.loop-p.invariant.first (c.put.ensures.here (omega arith) (zero_in g.S.Codes.Scale.model)) c.put.ensures.rest c.first-p-in-loop-p.ensures in
     omega arith
 
 pub loop-p-preserved : goal.loop-p-preserved

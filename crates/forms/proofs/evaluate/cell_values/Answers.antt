@@ -14,7 +14,7 @@ loop-k-init g c = (record { steady = refl; cell = λ j z h. absurd (omega arith)
 pub loop-k-preserved : goal.loop-k-preserved
 loop-k-preserved g c =
     let code = g.S.Strip.code in
-    let M = g.Codes.Scale.model in
+    let M = g.S.Codes.Scale.model in
     let form = c.args.form.now in
     let xs = form.strips.now in
     let R = Rows code xs form.base in

@@ -5,6 +5,6 @@ use Rattle.forms.proofs.evaluate.cell_values.Given as goal
 
 abbrev pub invariant-loop-k : goal.invariant-loop-k
 invariant-loop-k g l =
-    Valued g.Codes.Scale.model (Rows g.S.Strip.code l.form.strips.now l.form.base) (l.k - 1) l.form.inputs.now l.setting l.values
+    Valued g.S.Codes.Scale.model (Rows g.S.Strip.code l.form.strips.now l.form.base) (l.k - 1) l.form.inputs.now l.setting l.values
     × ((j : ℕ) → l.k ≤ j → get_or l.values j 0 ≡ 0)
     × (length l.values ≡ 32)

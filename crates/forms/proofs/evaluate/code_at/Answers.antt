@@ -9,7 +9,7 @@ use Rattle.forms.proofs.evaluate.code_at.Goals as goal
 pub returns : goal.returns
 returns g c =
     let code = g.S.Strip.code in
-    let M = g.Codes.Scale.model in
+    let M = g.S.Codes.Scale.model in
     let form = c.args.form.now in
     let xs = form.strips.now in
     record {

@@ -7,11 +7,11 @@ use Rattle.forms.proofs.evaluate.weighted.Goals as goal
 
 pub loop-t-init : goal.loop-t-init
 unfolding fold
-loop-t-init g c = (some_code g.Codes.Scale.model, up_zero g.Codes.Scale.model)
+loop-t-init g c = (some_code g.S.Codes.Scale.model, up_zero g.S.Codes.Scale.model)
 
 pub loop-t-preserved : goal.loop-t-preserved
 loop-t-preserved g c =
-    let M = g.Codes.Scale.model in
+    let M = g.S.Codes.Scale.model in
     let product = c.product.ensures in
     let sum = c.sum-sum.ensures in (
       sum_code M _ _ _ c.loop-t.invariant.0 (product_code M _ _ _ product) sum,

@@ -5,5 +5,5 @@ use Rattle.forms.proofs.evaluate.weighted.Given as goal
 
 abbrev pub invariant-loop-t : goal.invariant-loop-t
 invariant-loop-t g l =
-    let M = g.Codes.Scale.model in
+    let M = g.S.Codes.Scale.model in
     (l.sum < M.q) × (up M l.sum ≡ weighed_up M (g.S.Strip.code l.row) l.t l.values)

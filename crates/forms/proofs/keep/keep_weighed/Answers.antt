@@ -25,7 +25,7 @@ loop-k-preserved g c =
 pub returns : goal.returns
 returns g c =
     let code = g.S.Strip.code in
-    let M = g.Codes.Scale.model in
+    let M = g.S.Codes.Scale.model in
     let xs = c.args.strips.now in
     let to = c.args.to in
     let from = c.args.from in

@@ -14,14 +14,14 @@ reduced_form-requires g c =
       within = omega arith;
       source = omega arith;
       apart = inl (omega arith);
-      below = source_past g.Codes.Scale.model s.code g.met.S.Strip.coded c.args.m c.args.work.now c.image_block.new.work c.args.a c.args.e c.args.size
+      below = source_past g.S.Codes.Scale.model s.code g.met.S.Strip.coded c.args.m c.args.work.now c.image_block.new.work c.args.a c.args.e c.args.size
           some c.requires.ends (omega arith) c.image_block.ensures c.requires.cellular;
     }
 
 pub returns : goal.returns
 returns g c =
     let s = g.S.Strip in
-    let M = g.Codes.Scale.model in
+    let M = g.S.Codes.Scale.model in
     let m = c.args.m in
     let a = c.args.a in
     let e = c.args.e in

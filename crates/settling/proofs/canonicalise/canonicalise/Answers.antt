@@ -20,13 +20,13 @@ back_all-requires g c =
       cells = omega arith;
       within = c.requires.within;
       order = c.requires.order;
-      cellular = begun_cellular g.Codes.Scale.model g.S.Strip.code c.args.d.now.cells c.lay_steady.new.work c.lay_steady.new.cpos st.cell st.one st.none;
+      cellular = begun_cellular g.S.Codes.Scale.model g.S.Strip.code c.args.d.now.cells c.lay_steady.new.work c.lay_steady.new.cpos st.cell st.one st.none;
     }
 
 pub returns-in_default : goal.returns-in_default
 returns-in_default g c =
     let s = g.S.Strip in
-    let M = g.Codes.Scale.model in
+    let M = g.S.Codes.Scale.model in
     let pos = c.args.d.now.pos in
     let m = c.args.d.now.cells in
     let w₀ = c.args.work.now in
@@ -46,7 +46,7 @@ returns-in_default g c =
 pub returns : goal.returns
 returns g c =
     let s = g.S.Strip in
-    let M = g.Codes.Scale.model in
+    let M = g.S.Codes.Scale.model in
     let pos = c.args.d.now.pos in
     let m = c.args.d.now.cells in
     let n = get_or pos c.args.d.now.cells 0 in

@@ -20,7 +20,7 @@ loop-h-init g c = record {
 pub loop-h-preserved : goal.loop-h-preserved
 loop-h-preserved g c =
     let s = g.S.Strip in
-    let M = g.Codes.Scale.model in
+    let M = g.S.Codes.Scale.model in
     let m = c.args.m in
     let a = c.args.a in
     let e = c.args.e in
@@ -57,4 +57,4 @@ loop-h-preserved g c =
 pub returns : goal.returns
 returns g c =
     let e : c.loop-h.h ≡ c.args.e = omega arith in
-    subst (λ (i : ℕ). Images g.Codes.Scale.model g.S.Strip.code c.args.work.now c.loop-h.work c.args.m c.args.a c.args.e i) e c.loop-h.invariant
+    subst (λ (i : ℕ). Images g.S.Codes.Scale.model g.S.Strip.code c.args.work.now c.loop-h.work c.args.m c.args.a c.args.e i) e c.loop-h.invariant

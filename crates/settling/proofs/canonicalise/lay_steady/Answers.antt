@@ -5,7 +5,7 @@ use Rattle.settling.proofs.canonicalise.lay_steady.Goals as goal
 pub returns : goal.returns
 returns g c =
     let s = g.S.Strip in
-    let M = g.Codes.Scale.model in
+    let M = g.S.Codes.Scale.model in
     let m = c.args.m in
     let short : s.len ≤ 128 = g.met.S.Strip.short in
     let long : 64 ≤ s.len = g.met.S.Strip.long in

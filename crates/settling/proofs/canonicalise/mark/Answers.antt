@@ -17,7 +17,7 @@ loop-h-init g c = record {
 pub loop-h-preserved : goal.loop-h-preserved
 loop-h-preserved g c =
     let s = g.S.Strip in
-    let M = g.Codes.Scale.model in
+    let M = g.S.Codes.Scale.model in
     let a = c.args.a in
     let h = c.loop-h.h in
     let j = c.args.j in

@@ -18,7 +18,7 @@ use Rattle.settling.proofs.trim.blank_place.Goals as goal
 pub returns : goal.returns
 returns g c =
     let s = g.S.Strip in
-    let M = g.Codes.Scale.model in
+    let M = g.S.Codes.Scale.model in
     let m = c.args.m in
     let h = c.args.h in
     let w₀ = c.args.work.now in

@@ -11,7 +11,7 @@ use Rattle.settling.proofs.trim.gain_of.Goals as goal
 pub returns : goal.returns
 returns g c p =
     let s = g.S.Strip in
-    let M = g.Codes.Scale.model in
+    let M = g.S.Codes.Scale.model in
     let e = c.args.e in
     let h = c.args.h in
     let w = c.args.work.now in

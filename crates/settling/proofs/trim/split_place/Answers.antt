@@ -15,7 +15,7 @@ use Rattle.settling.proofs.trim.split_place.Goals as goal
 pub absorb-oc-requires : goal.absorb-oc-requires
 absorb-oc-requires g c =
     let s = g.S.Strip in
-    let M = g.Codes.Scale.model in
+    let M = g.S.Codes.Scale.model in
     let w = c.args.work.now in
     let m = c.args.m in
     let h = c.args.h in
@@ -34,7 +34,7 @@ absorb-oc-requires g c =
 pub absorb-dc-requires : goal.absorb-dc-requires
 absorb-dc-requires g c =
     let s = g.S.Strip in
-    let M = g.Codes.Scale.model in
+    let M = g.S.Codes.Scale.model in
     let w = c.args.work.now in
     let m = c.args.m in
     let h = c.args.h in
@@ -53,7 +53,7 @@ absorb-dc-requires g c =
 pub returns : goal.returns
 returns g c =
     let s = g.S.Strip in
-    let M = g.Codes.Scale.model in
+    let M = g.S.Codes.Scale.model in
     let pos = c.args.pos.now in
     let m = c.args.m in
     let h = c.args.h in

@@ -9,7 +9,7 @@ use Rattle.settling.proofs.trim.steady_table.Goals as goal
 pub returns : goal.returns
 returns g c =
     let s = g.S.Strip in
-    let M = g.Codes.Scale.model in
+    let M = g.S.Codes.Scale.model in
     let m = c.args.m in
     let w₀ = c.args.work.now in
     let w₂ = c.store.new.work in

@@ -16,7 +16,7 @@ use Rattle.settling.proofs.trim.trim.Goals as goal
 pub returns : goal.returns
 returns g c =
     let s = g.S.Strip in
-    let M = g.Codes.Scale.model in
+    let M = g.S.Codes.Scale.model in
     let pos = c.args.d.now.pos in
     let n = get_or pos c.args.d.now.cells 0 in
     let m = c.args.d.now.cells in

@@ -18,5 +18,5 @@ returns g c =
     record {
       tables = c.loop-h.invariant.tables;
       beyond = c.loop-h.invariant.beyond;
-      step = subst (λ (i : ℕ). Advances g.Codes.Scale.model g.S.Strip.code c.args.pos.now c.args.m c.args.work.now 0 c.loop-h.work i) e c.loop-h.invariant.step;
+      step = subst (λ (i : ℕ). Advances g.S.Codes.Scale.model g.S.Strip.code c.args.pos.now c.args.m c.args.work.now 0 c.loop-h.work i) e c.loop-h.invariant.step;
     }

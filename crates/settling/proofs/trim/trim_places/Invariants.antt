@@ -8,5 +8,5 @@ invariant-loop-h g l =
     record {
       tables : Tables s.code l.work l.m;
       beyond : Beyond s.code l.initial.work l.work;
-      step : Advances g.Codes.Scale.model s.code l.pos l.m l.initial.work 0 l.work l.h;
+      step : Advances g.S.Codes.Scale.model s.code l.pos l.m l.initial.work 0 l.work l.h;
     }
