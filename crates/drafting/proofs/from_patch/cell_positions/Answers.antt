@@ -49,7 +49,7 @@ loop-k-preserved c =
           w.positions-is ∙ ap₂ (set c.loop-k.positions) c.loop-k.invariant.0 (w.position.ensures ∙ ap (λ s. position (listed s) i) c.order-order.ensures) in
           let long : length c.loop-k.positions ≡ 128 =
           sym (length-set c.loop-k.positions (length before) (position order i)) ∙ sym (ap length kept) ∙ c.match-record.array_long in (
-            omega (arith, w.count_is, c.loop-k.invariant.0, ap length more, length-append before (i ∷ [])),
+            omega (arith, w.count-is, c.loop-k.invariant.0, ap length more, length-append before (i ∷ [])),
             subst (λ (xs : List ℕ). Positions order xs c.match-record.positions) (sym more) (
                 subst (Positions order (before ++ i ∷ [])) (sym kept) (positions_more order before c.loop-k.positions i (omega (arith, long, c.requires.few, few i w.in-Cell.ensures)) c.loop-k.invariant.1)),
           )
@@ -57,7 +57,7 @@ loop-k-preserved c =
       | in_default w ↦ (
           let same : declared [] (take (k + 1) rs) ≡ before =
           declared_take rs [] k l ∙ ap (declare before) (sym c.record.ensures) ∙ no_cell before c.record.result w.in_default.not-Cell in (
-            omega (arith, w.count_is, c.loop-k.invariant.0, ap length same),
+            omega (arith, w.count-is, c.loop-k.invariant.0, ap length same),
             subst (λ (xs : List ℕ). Positions order xs c.match-record.positions) (sym same) (subst (Positions order before) (sym w.positions-is) c.loop-k.invariant.1),
           )
           )

@@ -18,7 +18,7 @@ invariant_of-result c =
     let e : c.loop-p.p ≡ c.args.n = omega arith in
     let d : Placed c.args.positions.now c.args.count c.args.n c.loop-p.cells c.loop-p.pos c.loop-p.place =
     finished _ _ _ _ _ _ c.requires.few (subst (λ (p : ℕ). Placing c.args.positions.now c.args.count c.args.n p 0 c.loop-p.cells c.loop-p.pos c.loop-p.place) e c.loop-p.invariant.0) in
-    (omega (arith, d.few, c.requires.few), (c.loop-p.invariant.1, (d.bound, tt)))
+    record { few = omega (arith, d.few, c.requires.few); wide = c.loop-p.invariant.1; bound = d.bound }
 
 pub returns : goal.returns
 returns c =
