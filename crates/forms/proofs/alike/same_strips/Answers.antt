@@ -12,7 +12,7 @@ returns-then-not-equal g c =
       same = λ b. absurd b;
       all = λ f. c.if-not-equal.ensures.all (
           sym (rows_read code xs c.args.a k _ (omega (arith, c.requires.first)) c.index-strips-a.is) ∙ f k c.loop-k-test.true
-          ∙ rows_read code xs c.args.b k _ (omega (arith, c.requires.second)) c.index-strips_b.is);
+          ∙ rows_read code xs c.args.b k _ (omega (arith, c.requires.second)) c.index-strips-b.is);
     }
 
 pub loop-k-preserved : goal.loop-k-preserved
@@ -23,6 +23,6 @@ loop-k-preserved g c =
     λ j l. elim (ℕ_discrete j k) [
       | yes e ↦ rw e (
           rows_read code xs c.args.a k _ (omega (arith, c.requires.first)) c.index-strips-a.is ∙ c.if-not-equal.ensures.same tt
-          ∙ sym (rows_read code xs c.args.b k _ (omega (arith, c.requires.second)) c.index-strips_b.is))
+          ∙ sym (rows_read code xs c.args.b k _ (omega (arith, c.requires.second)) c.index-strips-b.is))
       | no n ↦ c.loop-k.invariant j (omega arith)
     ]
