@@ -5,7 +5,7 @@ use native.Mathlib.Decide.{ℕ_discrete}
 use Rattle.std.proofs.lemmas.Bool.{or_parts, leb-false, ltb-false}
 use Rattle.patch.specs.Records.{records, cells_of}
 use Rattle.patch.specs.Faults.{Verdict, passed, refused}
-use Rattle.book.specs.Rulebook.{Press, load, lay, weigh, tie, same, cells, sound, write, Rule, Pages, Entry, no_entry, entry, entered, Sought, no_size, size_of, Opening, Agree, PatchOf, early, asked, sought, TooMany, Cause, at_once, too_short, too_many, Refused, Enters, Run, none, more, Answer, agree, count, wrote, Says, Answers, OneSettled}
+use Rattle.book.specs.Rulebook.{Press, load, lay, weigh, tie, same, cells, sound, write, Rule, Pages, Entry, no_entry, entry, entered, Rack, Agree, PatchOf, early, asked, Cause, at_once, too_short, too_many, Refused, Enters, Run, none, more, Answer, agree, count, wrote, Says, Answers, OneSettled}
 use Rattle.patch.specs.Settings.{made}
 use Rattle.patch.proofs.Bits.{made_fits}
 
@@ -16,7 +16,7 @@ through : (b : Bool) (n k : ℕ) (y : Verdict) → cond b (refused n k) y ≡ pa
 through true n k y e = absurd (not_passed e)
 through false n k y e = (refl, e)
 
-module _ (R : Opening) where
+module _ (R : Rack) where
   open R use {slots, order, plus, times}
 
   -- pages that agree
@@ -28,12 +28,6 @@ module _ (R : Opening) where
   SameEntry no_entry (entry t g) = ⊥
   SameEntry (entry s f) no_entry = ⊥
   SameEntry (entry s f) (entry t g) = (s ≡ t) × Agree R f g
-
-  SameSought : Sought → Sought → Type 0
-  SameSought no_size no_size = Unit
-  SameSought no_size (size_of t g) = ⊥
-  SameSought (size_of s f) no_size = ⊥
-  SameSought (size_of s f) (size_of t g) = (s ≡ t) × ((setting : ℕ) → setting < 2 ^ length t → f setting ≡ g setting)
 
   tie_fits : (to a i v work : ℕ) → early R (tie to a i v work) ≡ passed → (i < length order) × (v < 2)
   tie_fits to a i v work e =
@@ -54,35 +48,20 @@ module _ (R : Opening) where
     asked_alike (sound a x) e = tt
     asked_alike (write a n) e = tt
 
-    sought_alike : (p : Press) → SameSought (sought R P p) (sought R Q p)
-    unfolding Alike SameSought
-    sought_alike (load s patch work) = (refl, λ x h. refl)
-    sought_alike (lay to a b work) = (refl, λ x h. ap₂ plus (alike a x h) (alike b x h))
-    sought_alike (weigh to a c) = tt
-    sought_alike (tie to a i v work) = tt
-    sought_alike (same a b) = tt
-    sought_alike (cells a) = tt
-    sought_alike (sound a x) = tt
-    sought_alike (write a n) = tt
-
-    many_alike : (p : Press) (eP eQ : Sought) (scan : List ℕ) (f : Rule) → early R p ≡ passed → sought R Q p ≡ eQ → SameSought eP eQ → eP ≡ size_of scan f
-        → TooMany R scan f → Cause R Q p 19 0
-    unfolding SameSought
-    many_alike p no_size eQ scan f e q s is many = let z : ◌≡◌ {A = ℕ} 0 1 = cc in absurd (omega arith)
-    many_alike p (size_of t g) no_size scan f e q s is many = absurd s
-    many_alike p (size_of t g) (size_of u h) scan f e q s is many =
+    many_alike : (p : Press) (eP eQ : Entry) (slot : ℕ) (f : Rule) → early R p ≡ passed → asked R Q p ≡ eQ → SameEntry eP eQ → eP ≡ entry slot f
+        → ((bytes : List ℕ) → PatchOf R f bytes → 31 < cells_of (records bytes)) → Cause R Q p 19 0
+    unfolding SameEntry
+    many_alike p no_entry eQ slot f e q s is many = let z : ◌≡◌ {A = ℕ} 0 1 = cc in absurd (omega arith)
+    many_alike p (entry t g) no_entry slot f e q s is many = absurd s
+    many_alike p (entry t g) (entry u h) slot f e q s is many =
         let same : g ≡ f = cc in
-        let order_same : t ≡ scan = cc in
-        let here : u ≡ scan = sym s.0 ∙ order_same in
-        too_many u h e q (
-        λ bytes b agree. many bytes (rw (sym here) b) (
-        rw (sym here) (λ (x : ℕ) l. agree x l ∙ sym (s.1 x l) ∙ ap (λ (r : Rule). r x) same)))
+        too_many u h e q (λ bytes b. many bytes (b.0, λ x l. b.1 x l ∙ sym (s.1 x l) ∙ ap (λ (r : Rule). r x) same))
 
     cause_alike : (p : Press) (number place : ℕ) → Cause R P p number place → Cause R Q p number place
     unfolding Alike
     cause_alike p number place (at_once e) = at_once e
     cause_alike p number place (too_short {a} e s l) = too_short e (s.0, λ x h. s.1 x h ∙ alike a x h) l
-    cause_alike p number place (too_many scan f e is many) = many_alike p (sought R P p) (sought R Q p) scan f e refl (sought_alike p) is many
+    cause_alike p number place (too_many slot f e is many) = many_alike p (asked R P p) (asked R Q p) slot f e refl (asked_alike p e) is many
 
     pick_alike : (b : Bool) (f g c d : Rule) (x : ℕ) → f x ≡ g x → c x ≡ d x → cond b f c x ≡ cond b g d x
     pick_alike true f g c d x e k = e
@@ -139,8 +118,8 @@ module _ (R : Opening) where
   apart : (v w : Verdict) (number place : ℕ) → v ≡ passed → v ≡ refused number place → ⊥
   apart v w number place e f = let z : ◌≡◌ {A = ℕ} 0 1 = cc in omega arith
 
-  no_page : (a room : ℕ) (scan : List ℕ) (P : Pages) (f : Rule) → sought R P (write a room) ≡ size_of scan f → ⊥
-  no_page a room scan P f e = let z : ◌≡◌ {A = ℕ} 0 1 = cc in omega arith
+  no_page : (a room slot : ℕ) (P : Pages) (f : Rule) → asked R P (write a room) ≡ entry slot f → ⊥
+  no_page a room slot P f e = let z : ◌≡◌ {A = ℕ} 0 1 = cc in omega arith
 
   pub one_cause : (P : Pages) (p : Press) (number place number' place' : ℕ) → Cause R P p number place → Cause R P p number' place'
       → (number ≡ number') × (place ≡ place')
@@ -158,7 +137,7 @@ module _ (R : Opening) where
       short n k (too_many slot f g is many) = absurd (no_page a room slot P f is)
   one_cause P p number place number' place' (too_many slot f e is many) d = last p number' place' e is d
     where
-      last : (p : Press) (n k : ℕ) → early R p ≡ passed → sought R P p ≡ size_of slot f → Cause R P p n k → (19 ≡ n) × (0 ≡ k)
+      last : (p : Press) (n k : ℕ) → early R p ≡ passed → asked R P p ≡ entry slot f → Cause R P p n k → (19 ≡ n) × (0 ≡ k)
       last p n k e is (at_once g) = absurd (apart _ passed n k e g)
       last p n k e is (too_short {a} {room} g t m) = absurd (no_page a room slot P f is)
       last p n k e is (too_many u g h ic m) = (refl, refl)

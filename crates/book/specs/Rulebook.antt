@@ -1,8 +1,7 @@
 -- The rule book: it is fed the arguments of the panel calls in order, and no answer. Assumes nothing.
-use Rattle.std.specs.Prelude.{◌≡◌, ℕ, ◌^◌, ◌<◌, Bool, cond, ◌||◌, T, ◌↔◌, List, [], ◌∷◌, length, ◌==◌, nat_le, nat_lt}
+use Rattle.std.specs.Prelude.{◌≡◌, ℕ, suc, ◌+◌, ◌*◌, ◌/◌, ◌%◌, ◌^◌, ◌<◌, ◌≤◌, Bool, cond, ◌||◌, T, ◌↔◌, List, [], ◌∷◌, length, ◌==◌, nat_le, nat_lt}
 use Rattle.patch.specs.Records.{records, cells_of}
-use Rattle.patch.specs.Admitted.{examined}
-use Rattle.patch.specs.Faults.{Verdict, passed, refused, Patch}
+use Rattle.patch.specs.Faults.{Verdict, passed, refused, check_patch, Patch}
 use Rattle.patch.specs.Paths.{rule}
 use Rattle.patch.specs.Settings.{made}
 use Rattle.patch.specs.Settled.{Settled}
@@ -57,13 +56,8 @@ abbrev pub entered : Pages → Entry → Pages
 entered pages no_entry slot = pages slot
 entered pages (entry to f) slot = cond (slot == to) f (pages slot)
 
--- a rule, read in a scan order, whose size is sought
-pub data Sought : Type 0 where
-  no_size : Sought
-  size_of : List ℕ → Rule → Sought
-
 -- what a rack is opened with: its slots, its scan order, its strips' places, its scale
-pub record Opening : Type 0 where
+pub record Rack : Type 0 where
   pub slots : ℕ
   pub order : List ℕ
   pub places : ℕ
@@ -72,7 +66,7 @@ pub record Opening : Type 0 where
   pub times : ℕ → ℕ → ℕ
   pub velocity : ℕ → ℕ
 
-module _ (R : Opening) where
+module _ (R : Rack) where
   open R use {slots, order, places, codes, plus, times, velocity}
 
   -- two rules agree at every setting
@@ -87,30 +81,20 @@ module _ (R : Opening) where
   abbrev pub SettledOf : Rule → List ℕ → Type 0
   SettledOf f bytes = Settled codes plus times order bytes × Agree (rule plus times order bytes) f
 
-  -- The checks of a press but for 9 and 19, in their order: first whether there are the slots that it names,
-  abbrev pub no_such_slot : Press → Bool
-  no_such_slot (load s patch work) = nat_le slots s
-  no_such_slot (lay to a b work) = nat_le slots to || nat_le slots a || nat_le slots b
-  no_such_slot (weigh to a c) = nat_le slots to || nat_le slots a
-  no_such_slot (tie to a i v work) = nat_le slots to || nat_le slots a
-  no_such_slot (same a b) = nat_le slots a || nat_le slots b
-  no_such_slot (cells a) = nat_le slots a
-  no_such_slot (sound a setting) = nat_le slots a
-  no_such_slot (write a room) = nat_le slots a
-
-  -- then the rest.
-  abbrev pub other_checks : Press → Verdict
-  other_checks (load s patch work) = cond (nat_lt work 512) (refused 8 0) (examined order places codes patch)
-  other_checks (lay to a b work) = cond (nat_lt work 512) (refused 8 0) passed
-  other_checks (weigh to a c) = cond (nat_le codes c) (refused 6 0) passed
-  other_checks (tie to a i v work) = cond (nat_le (length order) i || nat_lt 1 v) (refused 5 0) (cond (nat_lt work 512) (refused 8 0) passed)
-  other_checks (same a b) = passed
-  other_checks (cells a) = passed
-  other_checks (sound a setting) = cond (nat_le (2 ^ length order) setting) (refused 7 0) passed
-  other_checks (write a room) = passed
-
+  -- the checks of a press but for 9 and 19, in their order
   abbrev pub early : Press → Verdict
-  early p = cond (no_such_slot p) (refused 4 0) (other_checks p)
+  early (load s patch work) =
+      cond (nat_le slots s) (refused 4 0) (
+      cond (nat_lt work 512) (refused 8 0) (cond (nat_lt 65536 (length patch)) (refused 10 0) (check_patch order places codes patch)))
+  early (lay to a b work) = cond (nat_le slots to || nat_le slots a || nat_le slots b) (refused 4 0) (cond (nat_lt work 512) (refused 8 0) passed)
+  early (weigh to a c) = cond (nat_le slots to || nat_le slots a) (refused 4 0) (cond (nat_le codes c) (refused 6 0) passed)
+  early (tie to a i v work) =
+      cond (nat_le slots to || nat_le slots a) (refused 4 0) (
+      cond (nat_le (length order) i || nat_lt 1 v) (refused 5 0) (cond (nat_lt work 512) (refused 8 0) passed))
+  early (same a b) = cond (nat_le slots a || nat_le slots b) (refused 4 0) passed
+  early (cells a) = cond (nat_le slots a) (refused 4 0) passed
+  early (sound a setting) = cond (nat_le slots a) (refused 4 0) (cond (nat_le (2 ^ length order) setting) (refused 7 0) passed)
+  early (write a room) = cond (nat_le slots a) (refused 4 0) passed
 
   -- what a press would enter if it were not refused: the asked rule, on its page
   abbrev pub asked : Pages → Press → Entry
@@ -123,29 +107,14 @@ module _ (R : Opening) where
   asked pages (sound a setting) = no_entry
   asked pages (write a room) = no_entry
 
-  -- The rule whose size decides whether a press is refused for cells, with the scan order that it is read in. Weighing and tying need no more cells than there were.
-  abbrev pub sought : Pages → Press → Sought
-  sought pages (load s patch work) = size_of order (rule plus times order patch)
-  sought pages (lay to a b work) = size_of order (λ x. plus (pages a x) (pages b x))
-  sought pages (weigh to a c) = no_size
-  sought pages (tie to a i v work) = no_size
-  sought pages (same a b) = no_size
-  sought pages (cells a) = no_size
-  sought pages (sound a setting) = no_size
-  sought pages (write a room) = no_size
-
-  -- every patch of a rule, in a scan order, has more than 31 cells
-  abbrev pub TooMany : List ℕ → Rule → Type 0
-  TooMany scan f = (bytes : List ℕ) → Patch scan codes bytes → ((setting : ℕ) → setting < 2 ^ length scan → rule plus times scan bytes setting ≡ f setting)
-      → 31 < cells_of (records bytes)
-
   -- Causes of refusal: a number, and a place.
   pub data Cause (pages : Pages) : Press → ℕ → ℕ → Type 0 where
     at_once : {p : Press} {number place : ℕ} → early p ≡ refused number place → Cause pages p number place
     -- 9: the output is too short for the settled bytes
     too_short : {a room : ℕ} {bytes : List ℕ} → early (write a room) ≡ passed → SettledOf (pages a) bytes → room < length bytes → Cause pages (write a room) 9 0
-    -- 19: every patch of the sought rule has more than 31 cells
-    too_many : {p : Press} (scan : List ℕ) (f : Rule) → early p ≡ passed → sought pages p ≡ size_of scan f → TooMany scan f → Cause pages p 19 0
+    -- 19: every patch of the asked rule has more than 31 cells
+    too_many : {p : Press} (slot : ℕ) (f : Rule) → early p ≡ passed → asked pages p ≡ entry slot f
+        → ((bytes : List ℕ) → PatchOf f bytes → 31 < cells_of (records bytes)) → Cause pages p 19 0
 
   abbrev pub Refused : Pages → Press → Type 0
   Refused pages p = (number : ℕ) × (place : ℕ) × Cause pages p number place

@@ -1,3 +1,1 @@
 pub mod Describing
-pub mod Stored
-pub mod Storing

@@ -1,5 +1,1 @@
-pub mod Calls
 pub mod Describing
-pub mod Law
-pub mod Runs
-pub mod Standing

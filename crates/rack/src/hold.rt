@@ -5,7 +5,6 @@ use patch::ScanOrder;
 use strip::Strip;
 
 pub mod calls;
-mod checks;
 pub mod opening;
 
 // The slots of a rack.

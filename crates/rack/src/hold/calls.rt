@@ -1,11 +1,10 @@
 // The panel calls: load, lay, weigh, tie, same, cells, sound, write.
-ghost use Rattle.std.specs.Prelude.{◌≡◌, ℕ, ◌+◌, ◌*◌, ◌<◌, ◌≤◌, cond, length, IfOk, slice_index, slice_index_or};
+ghost use Rattle.std.specs.Prelude.{◌≡◌, ℕ, ◌+◌, ◌*◌, ◌<◌, ◌≤◌, T, length, IfOk, if◌then◌else◌, nat_lt, slice_index, slice_index_or};
 ghost use Rattle.patch.specs.Orders.{listed};
-ghost use Rattle.rack.specs.Calls.{Load, Lay, Weigh, Tie, Same, Cells, Sound as Heard, Write};
 ghost use Rattle.rack.specs.Describing.{noted_input};
 ghost use Rattle.settling.specs.Settling.{Sound};
 
-use super::{Desk, Rack, SLOT_STRIPS, Slot};
+use super::{Desk, Rack, SLOT_STRIPS, SLOTS, STRIPS, Slot};
 use drafting::{FormView, draft_patch, draft_sum, draft_tied};
 use forms::{code_at, encode, keep_form, keep_silent, keep_weighed, same_inputs, same_strips};
 use patch::{Patch, Refusal, ScanOrder, examine};
@@ -13,6 +12,14 @@ use scale::Scale;
 use settling::draft::{Draft, Form};
 use settling::settle;
 use strip::Strip;
+
+// What a rack with these strips has of slots.
+fn slot_count(strips: usize) -> usize
+    ensures value { result ≡ (if nat_lt strips 512 then 0 else 16) }
+    ensures most { result ≤ 16 }
+{
+    if strips < STRIPS { 0 } else { SLOTS }
+}
 
 // What is kept of slot s.
 fn descriptor(desk: &Desk, s: usize) -> Slot
@@ -99,11 +106,15 @@ fn tied_draft<S: Strip>(
 
 impl<'a, S: Strip> Rack<'a, S> {
     // Gives a slot the rule of a patch.
-    pub fn load(&mut self, slot: usize, bytes: &[u8], work: &mut [S]) -> Result<(), Refusal>
-        ensures { Load S.Strip S.Codes.Scale self.old slot bytes.now (length work.old) result self.new }
-    {
-        self.check_load(slot, bytes, work.len())?;
+    pub fn load(&mut self, slot: usize, bytes: &[u8], work: &mut [S]) -> Result<(), Refusal> {
+        if slot >= slot_count(self.strips.len()) {
+            return Err(Refusal::NoSlot);
+        }
+        if work.len() < STRIPS {
+            return Err(Refusal::FewWorkingStrips);
+        }
         let order = self.desk.order;
+        examine(bytes, &order, S::length(), S::Codes::codes())?;
         let patch = Patch::admit(bytes, &order, S::length(), S::Codes::codes());
         let mut draft = draft_patch(work, &patch);
         let form = settled(work, &mut draft)?;
@@ -113,10 +124,20 @@ impl<'a, S: Strip> Rack<'a, S> {
     }
 
     // Gives slot `to` the sum of two rules.
-    pub fn lay(&mut self, to: usize, a: usize, b: usize, work: &mut [S]) -> Result<(), Refusal>
-        ensures { Lay S.Strip S.Codes.Scale self.old to a b (length work.old) result self.new }
-    {
-        self.check_lay(to, a, b, work.len())?;
+    pub fn lay(&mut self, to: usize, a: usize, b: usize, work: &mut [S]) -> Result<(), Refusal> {
+        let slots = slot_count(self.strips.len());
+        if to >= slots {
+            return Err(Refusal::NoSlot);
+        }
+        if a >= slots {
+            return Err(Refusal::NoSlot);
+        }
+        if b >= slots {
+            return Err(Refusal::NoSlot);
+        }
+        if work.len() < STRIPS {
+            return Err(Refusal::FewWorkingStrips);
+        }
         let desk = self.desk;
         let mut draft = sum_draft(self.strips, &desk, a, b, work);
         let form = settled(work, &mut draft)?;
@@ -126,10 +147,17 @@ impl<'a, S: Strip> Rack<'a, S> {
     }
 
     // Gives slot `to` the code c times a rule.
-    pub fn weigh(&mut self, to: usize, a: usize, c: u8) -> Result<(), Refusal>
-        ensures { Weigh S.Strip S.Codes.Scale self.old to a c result self.new }
-    {
-        self.check_weigh(to, a, c)?;
+    pub fn weigh(&mut self, to: usize, a: usize, c: u8) -> Result<(), Refusal> {
+        let slots = slot_count(self.strips.len());
+        if to >= slots {
+            return Err(Refusal::NoSlot);
+        }
+        if a >= slots {
+            return Err(Refusal::NoSlot);
+        }
+        if c >= S::Codes::codes() {
+            return Err(Refusal::NoCode);
+        }
         if c == 0 {
             keep_silent(self.strips, SLOT_STRIPS * to);
             self.desk.slots[to] = Slot {
@@ -143,7 +171,7 @@ impl<'a, S: Strip> Rack<'a, S> {
         Ok(())
     }
 
-    // Gives slot `to` a rule with one input read as v. What is tied needs no more cells than it had, so that settling does not refuse it.
+    // Gives slot `to` a rule with one input read as v.
     pub fn tie(
         &mut self,
         to: usize,
@@ -151,24 +179,42 @@ impl<'a, S: Strip> Rack<'a, S> {
         input: u8,
         v: u8,
         work: &mut [S],
-    ) -> Result<(), Refusal>
-        ensures { Tie S.Strip S.Codes.Scale self.old to a input v (length work.old) result self.new }
-    {
-        self.check_tie(to, a, input, v, work.len())?;
+    ) -> Result<(), Refusal> {
+        let slots = slot_count(self.strips.len());
+        if to >= slots {
+            return Err(Refusal::NoSlot);
+        }
+        if a >= slots {
+            return Err(Refusal::NoSlot);
+        }
+        let order = self.desk.order;
+        if input >= order.count() {
+            return Err(Refusal::TieRange);
+        }
+        if v > 1 {
+            return Err(Refusal::TieRange);
+        }
+        if work.len() < STRIPS {
+            return Err(Refusal::FewWorkingStrips);
+        }
         let desk = self.desk;
         let mut draft = tied_draft(self.strips, &desk, a, input, v == 1, work);
         let form = settled(work, &mut draft)?;
         keep_form(self.strips, SLOT_STRIPS * to, work, &form);
-        describe(&mut self.desk.slots[to], &form, &desk.order);
+        describe(&mut self.desk.slots[to], &form, &order);
         Ok(())
     }
 
     // Whether two rules agree at every setting.
-    pub fn same(&self, a: usize, b: usize) -> Result<bool, Refusal>
-        ensures { Same S.Strip S.Codes.Scale self.now a b result }
-    {
-        self.check_same(a, b)?;
+    pub fn same(&self, a: usize, b: usize) -> Result<bool, Refusal> {
         let strips = &*self.strips;
+        let slots = slot_count(strips.len());
+        if a >= slots {
+            return Err(Refusal::NoSlot);
+        }
+        if b >= slots {
+            return Err(Refusal::NoSlot);
+        }
         let first = descriptor(&self.desk, a);
         let second = descriptor(&self.desk, b);
         if first.count != second.count {
@@ -181,19 +227,23 @@ impl<'a, S: Strip> Rack<'a, S> {
     }
 
     // The number of cells of a slot's form.
-    pub fn cells(&self, a: usize) -> Result<usize, Refusal>
-        ensures { Cells S.Strip S.Codes.Scale self.now a result }
-    {
-        self.check_cells(a)?;
+    pub fn cells(&self, a: usize) -> Result<usize, Refusal> {
+        let strips = &*self.strips;
+        if a >= slot_count(strips.len()) {
+            return Err(Refusal::NoSlot);
+        }
         Ok(descriptor(&self.desk, a).count as usize)
     }
 
     // The code of a rule at a setting, and its velocity.
-    pub fn sound(&self, a: usize, setting: u64) -> Result<(u8, u8), Refusal>
-        ensures { Heard S.Strip S.Codes.Scale self.now a setting result }
-    {
-        self.check_sound(a, setting)?;
+    pub fn sound(&self, a: usize, setting: u64) -> Result<(u8, u8), Refusal> {
         let strips = &*self.strips;
+        if a >= slot_count(strips.len()) {
+            return Err(Refusal::NoSlot);
+        }
+        if setting >> self.desk.order.count() != 0 {
+            return Err(Refusal::SettingRange);
+        }
         let slot = descriptor(&self.desk, a);
         let form = FormView {
             strips,
@@ -207,10 +257,12 @@ impl<'a, S: Strip> Rack<'a, S> {
 
     // Puts the settled bytes of a slot first in the output, and answers how many there are.
     pub fn write(&self, a: usize, out: &mut [u8]) -> Result<usize, Refusal>
-        ensures { Write S.Strip S.Codes.Scale self.now a out.old result out.new }
+        ensures { IfOk result (λ n. n ≤ length out.old) }
     {
-        self.check_cells(a)?;
         let strips = &*self.strips;
+        if a >= slot_count(strips.len()) {
+            return Err(Refusal::NoSlot);
+        }
         let slot = descriptor(&self.desk, a);
         let form = FormView {
             strips,

@@ -1,18 +1,11 @@
 // Opening a rack.
-ghost use Rattle.std.specs.Prelude.{◌≡◌, length, if◌then◌else◌, nat_lt};
-ghost use Rattle.patch.specs.Faults.{passed, refused};
-ghost use Rattle.patch.specs.Refusals.{Tells};
-ghost use Rattle.rack.specs.Calls.{New};
-
 use super::{Desk, Rack, STRIPS, Slot};
 use patch::{Refusal, ScanOrder};
 use strip::Strip;
 
 impl<'a, S: Strip> Rack<'a, S> {
     // Whether there are strips enough for a rack with slots.
-    pub fn check(strips: &[S]) -> Result<(), Refusal>
-        ensures { Tells result (if nat_lt (length strips.now) 512 then refused 3 0 else passed) }
-    {
+    pub fn check(strips: &[S]) -> Result<(), Refusal> {
         if strips.len() < STRIPS {
             return Err(Refusal::FewStrips);
         }
@@ -20,9 +13,7 @@ impl<'a, S: Strip> Rack<'a, S> {
     }
 
     // A rack with all slots silent; over fewer than 512 strips it has no slots.
-    pub fn open(order: &ScanOrder, strips: &'a mut [S]) -> Rack<'a, S>
-        ensures { New S.Strip S.Codes.Scale order.now (length strips.old) result }
-    {
+    pub fn open(order: &ScanOrder, strips: &'a mut [S]) -> Rack<'a, S> {
         let desk = Desk {
             order: *order,
             slots: [Slot {
