@@ -7,6 +7,9 @@ use rack::hold::STRIPS;
 use rack::{Answer, Press, Rack, play};
 use std::alloc::{AllocError, Global};
 use strip::Strip;
+use strip::accents::AccentStrip;
+use strip::gates::GateStrip;
+use strip::lanes::LaneStrip;
 
 // What a line that was read is answered by.
 #[derive(Drop)]
@@ -123,15 +126,9 @@ impl Panel {
             return push_texts(entries, text);
         };
         match opened.scale {
-            ScaleName::Gates => play_on::<strip::gates::GateStrip>(
-                heap, &opened, presses, entries, text,
-            ),
-            ScaleName::Accents => play_on::<strip::accents::AccentStrip>(
-                heap, &opened, presses, entries, text,
-            ),
-            ScaleName::Lanes => play_on::<strip::lanes::LaneStrip>(
-                heap, &opened, presses, entries, text,
-            ),
+            ScaleName::Gates => play_on::<GateStrip>(heap, &opened, presses, entries, text),
+            ScaleName::Accents => play_on::<AccentStrip>(heap, &opened, presses, entries, text),
+            ScaleName::Lanes => play_on::<LaneStrip>(heap, &opened, presses, entries, text),
         }
     }
 

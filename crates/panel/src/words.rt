@@ -57,7 +57,7 @@ fn hex_byte(high: u8, low: u8) -> Option<u8> {
 // The bytes that a word of hexadecimal digits is, two to a byte; `-` is no bytes.
 pub fn hex_bytes(heap: Global, word: &[u8]) -> Result<Option<Vec<u8>>, AllocError> {
     let mut bytes = Vec::new(heap);
-    if word == b"-" {
+    if word == b"-".as_slice() {
         return Ok(Some(bytes));
     }
     if word.len() % 2 != 0 {

@@ -8,6 +8,7 @@ use patch::{Patch, Refusal, ScanOrder, listing, refusal_line};
 use rack::Rack;
 use rack::hold::STRIPS;
 use scale::Scale;
+use scale::gates::Gates;
 use std::io::{Read, Write};
 use strip::Strip;
 use strip::gates::GateStrip;
@@ -53,7 +54,7 @@ fn written_listing(
         &settled[0..n],
         order,
         <GateStrip as Strip>::length(),
-        <scale::gates::Gates as Scale>::codes(),
+        <Gates as Scale>::codes(),
     );
     listing(&patch, text)
 }
