@@ -1,5 +1,5 @@
 -- The rule book: it is fed the arguments of the panel calls in order, and no answer. Assumes nothing.
-use Rattle.std.specs.Prelude.{◌≡◌, ℕ, suc, ◌+◌, ◌*◌, ◌/◌, ◌%◌, ◌^◌, ◌<◌, ◌≤◌, Bool, cond, ◌||◌, T, ◌↔◌, List, [], ◌∷◌, length, ◌==◌, nat_le, nat_lt}
+use Rattle.std.specs.Prelude.{◌≡◌, ℕ, ◌^◌, ◌<◌, Bool, cond, ◌||◌, T, ◌↔◌, List, [], ◌∷◌, length, ◌==◌, nat_le, nat_lt}
 use Rattle.patch.specs.Records.{records, cells_of}
 use Rattle.patch.specs.Faults.{Verdict, passed, refused, check_patch, Patch}
 use Rattle.patch.specs.Paths.{rule}

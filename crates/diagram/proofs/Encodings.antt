@@ -1,5 +1,5 @@
 -- The encoding of a diagram in echelon form is a patch of its rule that keeps the order and the first four conditions; and such a patch is the encoding of one. Assumes nothing.
-use Rattle.std.proofs.Common.{◌≡◌, ℕ, zero, suc, ◌-◌, ◌<◌, ◌≤◌, Bool, true, false, cond, eqb, ltb, ◌≢◌, List, length, get_or, sym, refl, ap, ◌∙◌, ap₂, arith}
+use Rattle.std.proofs.Common.{◌≡◌, ℕ, zero, suc, ◌-◌, ◌<◌, ◌≤◌, Bool, cond, eqb, ltb, List, length, get_or, sym, refl, ap, ◌∙◌, arith}
 use mathlib.Core.HLevel.{dec→stable}
 use native.Mathlib.Decide.{ℕ_discrete, dec_lt}
 use Rattle.std.proofs.lemmas.Bool.{cond-true, cond-false, ne_eqb, lt-ltb, le-ltb}
@@ -9,8 +9,8 @@ use Rattle.linear.specs.Sums.{sum}
 use Rattle.linear.proofs.Ring.{zero_times}
 use Rattle.linear.proofs.Sums.{sum_cong}
 use Rattle.patch.specs.Encoding.{encode, EchelonNumbers}
-use Rattle.patch.specs.Faults.{position, Order, Patch}
-use Rattle.patch.specs.Paths.{bit as bit_of, path_sum, rule as rule_of}
+use Rattle.patch.specs.Faults.{position, Patch}
+use Rattle.patch.specs.Paths.{bit as bit_of, path_sum}
 use Rattle.patch.specs.Records.{records, reads, cells_of}
 use Rattle.patch.specs.Settled.{Kept}
 use Rattle.patch.proofs.Decoded.{decoded}
@@ -20,7 +20,7 @@ use Rattle.patch.proofs.Lengths.{encode_short}
 use Rattle.patch.proofs.Numbers.{lift_is, lift_number}
 use Rattle.patch.proofs.Rowsum.{encoded_in_field, encode_same}
 use Rattle.diagram.specs.Canonical.{Echelon, Leads}
-use Rattle.diagram.specs.Diagram.{Assignment, Diagram, bit, val, rule}
+use Rattle.diagram.specs.Diagram.{Assignment, Diagram, val, rule}
 use Rattle.diagram.specs.Patches.{Reading, scalars, inputs, at_settings, PatchOf, encoding}
 use Rattle.diagram.specs.Uniqueness.{Same}
 use Rattle.diagram.proofs.Cells.{formed, cell_val}

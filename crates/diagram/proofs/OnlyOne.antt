@@ -1,5 +1,5 @@
 -- The settled patch of a rule: it is the encoding of the canonical diagram, no patch of the rule is smaller, and there is only one. Assumes nothing.
-use Rattle.std.proofs.Common.{◌≡◌, ℕ, suc, ◌<◌, ◌≤◌, Bool, List, sym, ap, ◌∙◌, subst, ap₂, arith}
+use Rattle.std.proofs.Common.{◌≡◌, ℕ, suc, ◌≤◌, Bool, List, sym, ap, ◌∙◌, ap₂, arith}
 use native.Mathlib.Decide.{dec_lt}
 use Rattle.linear.specs.Codes.{Code, code_eq, as_code}
 use Rattle.linear.specs.Field.{Field}

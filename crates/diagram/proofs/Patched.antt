@@ -1,21 +1,21 @@
 -- A patch is a diagram with its rule; and settings are as good as assignments. Assumes nothing.
-use Rattle.std.proofs.Common.{◌≡◌, ℕ, suc, ◌^◌, ◌<◌, ◌≤◌, Bool, true, false, cond, eqb, ◌⊎◌, ◌↔◌, List, [], map, length, get_or, sym, refl, ap, ◌∙◌, subst, ap₂, inl, inr, arith}
+use Rattle.std.proofs.Common.{◌≡◌, ℕ, ◌^◌, ◌<◌, ◌≤◌, Bool, true, false, cond, eqb, List, [], map, get_or, sym, refl, ap, ◌∙◌, subst, ap₂, inl, inr, arith}
 use native.Mathlib.Decide.{ℕ_discrete}
 use Rattle.std.proofs.lemmas.Bool.{cond-false, ne_eqb}
 use Rattle.linear.specs.Codes.{Code, codes, as_code}
 use Rattle.linear.specs.Field.{Field}
 use Rattle.linear.proofs.Ring.{one_times, zero_times}
-use Rattle.patch.specs.Faults.{position, Order, Later, Patch}
+use Rattle.patch.specs.Faults.{position, Later, Patch}
 use Rattle.patch.specs.Paths.{bit as bit_of, on_from, off_from, path_sum, product, total, rule as rule_of}
 use Rattle.patch.specs.Records.{records, declared, nth, reads, cells_of}
 use Rattle.patch.specs.Settings.{made}
-use Rattle.patch.specs.Values.{sent, off_to, dif_to, out_to}
+use Rattle.patch.specs.Values.{sent}
 use Rattle.patch.proofs.Bits.{any_inputs, same_paths, made_bit, made_bits}
 use Rattle.patch.proofs.Facts.{Facts, facts}
 use Rattle.patch.proofs.Numbers.{lift_is, sent_none, diagram_in_field}
 use Rattle.patch.proofs.Values.{open_arc}
 use Rattle.diagram.specs.Canonical.{Local}
-use Rattle.diagram.specs.Diagram.{Assignment, turn, Diagram, Formed, bit, val, rule}
+use Rattle.diagram.specs.Diagram.{Assignment, turn, Formed, bit, val, rule}
 use Rattle.diagram.specs.Patches.{Reading, scalars, inputs, reads_as, at_settings, Agree, patch_diagram}
 use Rattle.diagram.proofs.Outlets.{rule_local}
 use Rattle.diagram.proofs.Values.{opens, open_val, steady_val, turn_at, turn_off}

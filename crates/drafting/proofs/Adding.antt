@@ -1,5 +1,5 @@
 -- The records of a patch entered one after the other into blank rows.
-use Rattle.std.proofs.Common.{◌≡◌, ℕ, suc, ◌+◌, ◌<◌, ◌≤◌, List, sym, refl, ap, ◌∙◌, subst, arith}
+use Rattle.std.proofs.Common.{◌≡◌, ℕ, suc, ◌+◌, ◌≤◌, List, ap, ◌∙◌, subst, arith}
 use Rattle.linear.specs.Field.{Field}
 use Rattle.linear.specs.Sums.{fold, sum}
 use Rattle.scale.specs.Model.{ScaleModel}

@@ -1,5 +1,5 @@
 -- One record entered into the rows of a draft: what is added to a row, as an element of the field.
-use Rattle.std.proofs.Common.{◌≡◌, ℕ, ◌+◌, ◌<◌, ◌≤◌, ◌≢◌, List, sym, refl, ap, ◌∙◌, subst, ap₂, arith}
+use Rattle.std.proofs.Common.{◌≡◌, ℕ, ◌<◌, List, sym, refl, ap, ◌∙◌, subst, ap₂, arith}
 use mathlib.Core.Logic.{ite}
 use native.Mathlib.Decide.{ℕ_discrete}
 use Rattle.linear.specs.Codes.{code_eq, coded, codes}
@@ -15,8 +15,7 @@ use Rattle.elimination.proofs.Grids.{rows_coded}
 use Rattle.elimination.proofs.Lifting.{up_plus}
 use Rattle.patch.specs.Paths.{code as byte_code}
 use Rattle.patch.specs.Records.{Record, filler, cell, off, on, outlet}
-use Rattle.settling.specs.Draft.{Beyond}
-use Rattle.drafting.specs.Arcs.{only, off_part, dif_part, out_part, Entered}
+use Rattle.drafting.specs.Arcs.{only, Entered}
 use Rattle.drafting.specs.Drafts.{AddedAt, AddedIn}
 
 module _ (M : ScaleModel) where

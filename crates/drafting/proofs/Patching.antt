@@ -1,5 +1,5 @@
 -- A draft whose cells stand where a plan of their positions says, and whose rows hold what the records of a patch bring, means that patch.
-use Rattle.std.proofs.Common.{◌≡◌, ℕ, suc, ◌+◌, ◌-◌, ◌<◌, ◌≤◌, cond, ◌||◌, eqb, ltb, ◌⊎◌, List, [], length, get_or, sym, refl, ap, ◌∙◌, subst, ap₂, inl, inr, arith}
+use Rattle.std.proofs.Common.{◌≡◌, ℕ, suc, ◌+◌, ◌-◌, ◌<◌, ◌≤◌, cond, ◌||◌, List, [], length, get_or, sym, ap, ◌∙◌, subst, ap₂, inl, inr, arith}
 use Rattle.std.proofs.lemmas.Bool.{cases_eq, cond-false, ne_eqb, le-ltb}
 use Rattle.linear.specs.Codes.{as_code}
 use Rattle.linear.proofs.Codes.{coded_any}
@@ -9,17 +9,17 @@ use Rattle.diagram.specs.Passes.{along, Embeds}
 use Rattle.diagram.specs.Patches.{patch_diagram}
 use Rattle.diagram.proofs.Patched.{patch_formed}
 use Rattle.diagram.proofs.Tying.{moved_formed, moved_rule}
-use Rattle.elimination.specs.Lift.{Element, scalars, up, Grid}
+use Rattle.elimination.specs.Lift.{Element, scalars, up}
 use Rattle.patch.specs.Faults.{position, Patch}
 use Rattle.patch.specs.Orders.{listed}
-use Rattle.patch.specs.Records.{records, declared, reads, cells_of}
+use Rattle.patch.specs.Records.{records, declared, cells_of}
 use Rattle.patch.specs.declared.order.ScanOrder.{ScanOrder}
 use Rattle.patch.proofs.Facts.{Facts, facts}
 use Rattle.patch.proofs.Orders.{lawful}
 use Rattle.patch.proofs.Pigeons.{pigeons}
 use Rattle.scale.specs.Model.{ScaleModel}
 use Rattle.settling.specs.declared.draft.Draft.{Draft}
-use Rattle.settling.specs.Settling.{positions, diagram_of}
+use Rattle.settling.specs.Settling.{diagram_of}
 use Rattle.strip.specs.Row.{Row}
 use Rattle.drafting.specs.Arcs.{Positions, spot, Summed}
 use Rattle.drafting.specs.Meaning.{reading, patch_rule, Drafts}

@@ -1,5 +1,5 @@
 -- What all records of a patch bring into the rows of a draft is the patch's diagram, moved to where its cells stand.
-use Rattle.std.proofs.Common.{◌≡◌, ℕ, zero, suc, ◌<◌, ◌≤◌, Bool, true, false, cond, ◌&&◌, eqb, ◌≢◌, ◌⊎◌, List, length, sym, refl, ap, ◌∙◌, ap₂, inl, inr, arith}
+use Rattle.std.proofs.Common.{◌≡◌, ℕ, zero, suc, ◌<◌, ◌≤◌, Bool, true, false, cond, ◌&&◌, eqb, ◌≢◌, List, length, sym, refl, ap, ◌∙◌, ap₂, inl, inr, arith}
 use mathlib.Core.Logic.{ite, if_pos, if_neg}
 use native.Mathlib.Decide.{ℕ_discrete}
 use Rattle.std.proofs.lemmas.Bool.{cases_eq, cond_both, eq-eqb, ne_eqb}
@@ -18,7 +18,7 @@ use Rattle.patch.proofs.Numbers.{code_small}
 use Rattle.patch.proofs.Values.{target_known}
 use Rattle.scale.specs.Model.{ScaleModel}
 use Rattle.drafting.specs.Arcs.{from_off, from_on, from_outlet, off_part, dif_part, out_part}
-use Rattle.drafting.proofs.Entering.{up_more, up_neg, no_dif, on_dif}
+use Rattle.drafting.proofs.Entering.{up_more, up_neg, no_dif}
 
 module _ {K : Type 0} (F : Field K) where
   ite_zero : {P : Type 0} (d : Dec P) (x : K) → x ≡ F.zero → ite d x F.zero ≡ F.zero

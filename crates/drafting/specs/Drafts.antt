@@ -1,8 +1,6 @@
 -- Rows of a draft, and what holds of every draft that is laid out.
-use Rattle.std.specs.Prelude.{◌≡◌, ℕ, ◌+◌, ◌<◌, ◌≤◌, List, ◌≢◌}
-use Rattle.elimination.specs.Rows.{Rows}
+use Rattle.std.specs.Prelude.{◌≡◌, ℕ, ◌<◌, ◌≢◌}
 use Rattle.scale.specs.Model.{ScaleModel}
-use Rattle.settling.specs.Draft.{Ordered, Bounded}
 use Rattle.strip.specs.Row.{Row}
 
 -- the row g is f with the code c added at a place

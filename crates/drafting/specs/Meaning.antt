@@ -1,11 +1,11 @@
 -- What a draft means: a diagram with a rule, well formed, over the positions of a scan order.
-use Rattle.std.specs.Prelude.{◌≡◌, ℕ, ◌+◌, ◌-◌, ◌<◌, ◌≤◌, Bool, cond, List, length, ◌==◌, slice_index}
+use Rattle.std.specs.Prelude.{◌≡◌, ℕ, ◌+◌, ◌-◌, ◌<◌, Bool, cond, List, length, ◌==◌, slice_index}
 use Rattle.std.proofs.Common.{arith}
 use Rattle.diagram.specs.Diagram.{Assignment, Diagram, Formed, rule, turn}
 use Rattle.diagram.specs.Patches.{Reading, patch_diagram}
 use Rattle.diagram.specs.Patches.{scalars as scalars-of}
 use Rattle.elimination.specs.Lift.{Element, scalars, up, Grid}
-use Rattle.patch.specs.Faults.{position, Order}
+use Rattle.patch.specs.Faults.{position}
 use Rattle.patch.specs.Orders.{listed}
 use Rattle.patch.specs.declared.order.ScanOrder.{ScanOrder}
 use Rattle.patch.proofs.Orders.{lawful}

@@ -1,5 +1,5 @@
 -- Rows in working memory, a table of rows by pivot, and what elimination makes of it.
-use Rattle.std.specs.Prelude.{◌≡◌, ℕ, zero, suc, ◌+◌, ◌<◌, ◌≤◌, List, [], ◌∷◌, map, ◌≢◌, slice_index_or}
+use Rattle.std.specs.Prelude.{◌≡◌, ℕ, zero, suc, ◌+◌, ◌<◌, ◌≤◌, List, map, ◌≢◌, slice_index_or}
 use Rattle.strip.specs.Row.{Row, zeros, First}
 use Rattle.elimination.specs.Arithmetic.{Arithmetic}
 

@@ -1,12 +1,12 @@
 -- The strips of a slot are filled one after another.
-use Rattle.std.proofs.Common.{◌≡◌, ℕ, suc, ◌+◌, ◌<◌, ◌≤◌, List, length, get_or, set, sym, refl, ap, ◌∙◌, subst, arith, length-set}
+use Rattle.std.proofs.Common.{◌≡◌, ℕ, ◌+◌, ◌<◌, ◌≤◌, List, length, get_or, set, sym, refl, ap, ◌∙◌, subst, arith, length-set}
 use mathlib.Core.Path.{fun_ext}
 use native.Mathlib.Decide.{ℕ_discrete}
 use Rattle.elimination.specs.Arithmetic.{arithmetic, zero_in}
 use Rattle.elimination.specs.Rows.{Rows, Outside, scaled}
 use Rattle.elimination.proofs.Answering.{add_answer}
 use Rattle.scale.specs.Model.{ScaleModel}
-use Rattle.elimination.proofs.Grids.{rows_at, rows_same, rows_other, set_outside, outside_trans}
+use Rattle.elimination.proofs.Grids.{rows_at, rows_same, rows_other, set_outside}
 use Rattle.std.proofs.lemmas.Bool.{cond-true, cond-false, ne_eqb, le-leb, lt-leb}
 use Rattle.strip.specs.Row.{Row, zeros, Added}
 use Rattle.forms.specs.Keeping.{Filled, form_rows}

@@ -1,5 +1,5 @@
 -- The bytes of a form are the encoding of its diagram; and the strips of a slot by those that were put into another.
-use Rattle.std.proofs.Common.{◌≡◌, ℕ, suc, ◌+◌, ◌-◌, ◌*◌, ◌<◌, ◌≤◌, ◌≢◌, List, length, get_or, sym, refl, ap, ◌∙◌, arith}
+use Rattle.std.proofs.Common.{◌≡◌, ℕ, ◌+◌, ◌-◌, ◌*◌, ◌<◌, ◌≤◌, ◌≢◌, List, length, get_or, sym, ap, ◌∙◌, arith}
 use native.Mathlib.Decide.{dec_lt}
 use Rattle.std.proofs.lemmas.Bool.{cond-false, ne_eqb}
 use Rattle.diagram.specs.Diagram.{Diagram}
@@ -8,7 +8,6 @@ use Rattle.drafting.specs.Meaning.{reading, form_diagram}
 use Rattle.elimination.specs.Lift.{Element, some_code, up}
 use Rattle.elimination.specs.Rows.{Rows}
 use Rattle.elimination.proofs.Grids.{rows_coded}
-use Rattle.linear.specs.Codes.{Code}
 use Rattle.linear.proofs.Codes.{coded_number}
 use Rattle.patch.specs.declared.order.ScanOrder.{ScanOrder}
 use Rattle.patch.specs.Encoding.{encode}

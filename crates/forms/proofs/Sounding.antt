@@ -1,6 +1,6 @@
 -- The code that is computed from a form's rows is that of its diagram's rule.
-use Rattle.std.proofs.Common.{◌≡◌, ℕ, zero, suc, ◌+◌, ◌-◌, ◌/◌, ◌%◌, ◌^◌, ◌<◌, ◌≤◌, Bool, true, false, cond, ◌&&◌, ltb, ◌≢◌, List, length, get_or, set, sym, refl, ap, ◌∙◌, ap₂, inl, inr, arith, get_or-set_other, get_or-set_same}
-use native.Mathlib.Decide.{ℕ_discrete, dec_lt}
+use Rattle.std.proofs.Common.{◌≡◌, ℕ, zero, suc, ◌+◌, ◌-◌, ◌<◌, ◌≤◌, Bool, true, false, cond, ◌&&◌, ◌≢◌, List, length, get_or, set, sym, ap, ◌∙◌, ap₂, arith, get_or-set_other, get_or-set_same}
+use native.Mathlib.Decide.{ℕ_discrete}
 use Rattle.std.proofs.lemmas.Bool.{cond-false, ne_eqb, lt-ltb}
 use Rattle.diagram.specs.Canonical.{Echelon}
 use Rattle.diagram.specs.Diagram.{Assignment, Diagram, rule, val}
@@ -11,13 +11,12 @@ use Rattle.diagram.proofs.Patched.{bit_times}
 use Rattle.diagram.proofs.Values.{steady_val}
 use Rattle.drafting.specs.Meaning.{reading, form_diagram}
 use Rattle.elimination.specs.Arithmetic.{arithmetic, plus_is}
-use Rattle.elimination.specs.Lift.{Element, scalars, some_code, up}
+use Rattle.elimination.specs.Lift.{Element, scalars, up}
 use Rattle.elimination.specs.Rows.{Rows}
 use Rattle.elimination.proofs.Answering.{times_answer}
 use Rattle.elimination.proofs.Lifting.{up_zero, up_one, up_plus, up_times}
-use Rattle.linear.specs.Codes.{Code}
 use Rattle.linear.specs.Field.{Field}
-use Rattle.linear.specs.Sums.{fold, sum}
+use Rattle.linear.specs.Sums.{sum}
 use Rattle.linear.proofs.Ring.{zero_times}
 use Rattle.linear.proofs.Sums.{sum_cong}
 use Rattle.patch.specs.declared.order.ScanOrder.{ScanOrder}
@@ -26,7 +25,7 @@ use Rattle.patch.specs.Paths.{bit}
 use Rattle.scale.specs.Model.{ScaleModel, at_codes}
 use Rattle.strip.specs.Row.{Row}
 use Rattle.forms.specs.Forms.{cell_input}
-use Rattle.forms.specs.Sounding.{weighed_up, Valued, Sounds}
+use Rattle.forms.specs.Sounding.{weighed_up, Valued}
 use Rattle.forms.proofs.Meaning.{up_number, input_is}
 use Rattle.forms.proofs.Writing.{fold_more}
 

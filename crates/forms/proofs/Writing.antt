@@ -5,13 +5,12 @@ use Rattle.std.proofs.lemmas.List.{append_assoc, append-nil}
 use Rattle.std.proofs.lemmas.Bool.{cond-true, cond-false, eq-eqb, ne_eqb}
 use Rattle.linear.specs.Sums.{fold}
 use Rattle.linear.proofs.Codes.{fold_cong}
-use Rattle.elimination.specs.Rows.{Rows}
 use Rattle.patch.specs.Encoding.{four, written, unless_zero, cell_records, on_records, outlet_records, diagram_records, encode}
 use Rattle.patch.specs.Output.{laid, Put}
-use Rattle.patch.specs.Records.{Record, cell, on, outlet}
+use Rattle.patch.specs.Records.{Record, on, outlet}
 use Rattle.patch.proofs.Putting.{put_whole, put_length}
 use Rattle.strip.specs.Row.{Row}
-use Rattle.forms.specs.Forms.{cell_input, form_bytes, cell_bytes, arc_bytes, row_bytes}
+use Rattle.forms.specs.Forms.{cell_input, cell_bytes, arc_bytes, row_bytes}
 
 -- one term more
 pub fold_more : {K : Type 0} (z : K) (p : K → K → K) (n : ℕ) (f : ℕ → K) → fold z p (n + 1) f ≡ p (fold z p n f) (f n)

@@ -5,7 +5,6 @@ use Rattle.diagram.specs.Diagram.{rule}
 use Rattle.diagram.specs.Patches.{at_settings}
 use Rattle.drafting.specs.Meaning.{reading, form_diagram}
 use Rattle.elimination.specs.Lift.{Element, scalars, up}
-use Rattle.elimination.specs.Rows.{Rows}
 use Rattle.linear.specs.Sums.{sum}
 use Rattle.patch.specs.declared.order.ScanOrder.{ScanOrder}
 use Rattle.patch.specs.Orders.{listed}

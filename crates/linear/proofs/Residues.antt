@@ -1,6 +1,6 @@
 -- Remainders by m: the laws of sums and products hold at any m. Where one computed test finds that every number below m but 0 has an inverse,
 -- the numbers below m are a field. Assumes nothing.
-use Rattle.std.proofs.Common.{◌≡◌, ℕ, ◌+◌, ◌-◌, ◌*◌, ◌/◌, ◌%◌, ◌<◌, Bool, true, false, ◌&&◌, ◌||◌, eqb, ltb, ◌≢◌, map, get_or, replicate, sym, ap, ◌∙◌, add-zero, add_assoc, mod-lt, mod-eq_of_lt, mul_assoc, mul_comm, add-mul, add_comm, mul-one, mul-add, arith}
+use Rattle.std.proofs.Common.{◌≡◌, ℕ, ◌+◌, ◌-◌, ◌*◌, ◌/◌, ◌%◌, ◌<◌, Bool, true, false, ◌&&◌, ◌||◌, eqb, ltb, map, get_or, replicate, sym, ap, ◌∙◌, add-zero, add_assoc, mod-lt, mod-eq_of_lt, mul_assoc, mul_comm, add-mul, add_comm, mul-one, mul-add, arith}
 use native.Mathlib.Nat.{div-add-mod, mul-add-mod_self_left, mod_self, mod-add-mod, add-mod-mod}
 use lib.ListN.{get_or-replicate}
 use Rattle.std.specs.List.{range_with_len}

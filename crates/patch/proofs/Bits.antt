@@ -1,18 +1,16 @@
 -- Settings as numbers, and as what gives each input. Assumes nothing.
-use Rattle.std.proofs.Common.{◌≡◌, ℕ, zero, suc, ◌+◌, ◌-◌, ◌*◌, ◌/◌, ◌%◌, ◌^◌, ◌<◌, ◌≤◌, Bool, true, false, cond, eqb, ◌≢◌, ◌⊎◌, ◌↔◌, List, [], ◌∷◌, ◌++◌, map, length, sym, refl, ap, ◌∙◌, ap₂, inl, inr, mod-lt, mod-eq_of_lt, arith, pow_pos, pow-add, shr-shr, shr_lt}
-use native.Mathlib.Nat.{div-eq_of_lt}
+use Rattle.std.proofs.Common.{◌≡◌, ℕ, zero, suc, ◌+◌, ◌-◌, ◌*◌, ◌/◌, ◌%◌, ◌^◌, ◌<◌, ◌≤◌, Bool, true, false, cond, eqb, ◌≢◌, ◌↔◌, List, [], ◌∷◌, ◌++◌, map, length, sym, refl, ap, ◌∙◌, ap₂, inl, inr, mod-lt, arith, pow_pos, pow-add, shr-shr, shr_lt}
 use lib.Arith.{digits_lt}
-use lib.Pow.{split, high, low, field, mod-mod-pow}
+use lib.Pow.{high, low, field, mod-mod-pow}
 use Rattle.std.proofs.lemmas.Bool.{cases_order}
-use Rattle.linear.specs.Sums.{fold}
 use Rattle.linear.proofs.Codes.{fold_cong}
 use Rattle.patch.specs.Records.{Record, records, declared, nth, reads, cells_of}
 use Rattle.patch.specs.Faults.{Order, Patch}
-use Rattle.patch.specs.Paths.{bit, target, on_from, off_from, opens, starts, walks, paths, product, total, path_sum, rule}
+use Rattle.patch.specs.Paths.{bit, target, on_from, off_from, starts, walks, paths, product, total, path_sum, rule}
 use Rattle.patch.specs.Settings.{made}
 use Rattle.patch.specs.Settled.{SameRule}
 use Rattle.patch.proofs.Facts.{Facts, facts}
-use Rattle.patch.proofs.Values.{target_known, cond_when}
+use Rattle.patch.proofs.Values.{target_known}
 
 abbrev digit : ℕ → ℕ → ℕ
 digit y i = y / 2 ^ i % 2

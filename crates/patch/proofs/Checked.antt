@@ -1,8 +1,8 @@
 -- The check of a patch finds the first faulty record, or none. Assumes nothing.
-use Rattle.std.proofs.Common.{◌≡◌, ℕ, zero, suc, ◌+◌, ◌*◌, ◌/◌, ◌%◌, ◌<◌, ◌≤◌, Bool, true, false, cond, not, ◌&&◌, ◌||◌, eqb, ltb, leb, ◌≢◌, ◌⊎◌, ◌↔◌, List, [], ◌∷◌, ◌++◌, length, get_or, take, sym, refl, ap, ◌∙◌, inl, inr, add-zero, add-suc, arith, length-append}
-use Rattle.std.proofs.lemmas.Bool.{cond-true, cond-false, or_parts, or_from, or_cases, or_left, or_right, ltb-true, ltb-false, leb-true, leb-false, eqb-true, eqb-false, lt-ltb, le-ltb, le-leb, lt-leb, eq-eqb, ne_eqb, not-false, not_from_true}
-use Rattle.patch.specs.Records.{Record, filler, cell, off, on, outlet, unmarked, unclean, read, records, declare, declared, input, nth, cells_of}
-use Rattle.patch.specs.Faults.{position, later, arc_fault, fault, Verdict, passed, refused, check_from, check_patch, Bytes, Later, Arc, Fine, AllFine, Patch, First}
+use Rattle.std.proofs.Common.{◌≡◌, ℕ, zero, suc, ◌+◌, ◌*◌, ◌/◌, ◌%◌, ◌<◌, ◌≤◌, Bool, true, false, cond, not, ◌||◌, eqb, ltb, leb, ◌≢◌, ◌↔◌, List, [], ◌∷◌, length, get_or, take, sym, refl, ap, ◌∙◌, inl, inr, add-zero, arith, length-append}
+use Rattle.std.proofs.lemmas.Bool.{cond-true, cond-false, or_parts, or_from, or_cases, or_left, or_right, ltb-true, ltb-false, leb-false, eqb-true, eqb-false, lt-ltb, le-ltb, lt-leb, eq-eqb, ne_eqb, not-false, not_from_true}
+use Rattle.patch.specs.Records.{Record, filler, cell, off, on, outlet, unmarked, unclean, read, records, declare, declared, nth, cells_of}
+use Rattle.patch.specs.Faults.{later, arc_fault, fault, passed, refused, check_from, check_patch, Bytes, Later, Arc, Fine, AllFine, Patch, First}
 
 -- a fault that did not occur
 fell : (b : Bool) (k y : ℕ) → cond b (suc k) y ≡ 0 → (b ≡ false) × (y ≡ 0)

@@ -1,21 +1,20 @@
 -- A patch that keeps the order and the first four conditions is the encoding of a diagram in echelon form. Assumes nothing.
-use Rattle.std.proofs.Common.{◌≡◌, ℕ, zero, suc, ◌+◌, ◌-◌, ◌%◌, ◌<◌, ◌≤◌, Bool, true, false, cond, ◌&&◌, eqb, ◌≢◌, ◌⊎◌, ◌↔◌, List, [], ◌∷◌, ◌++◌, map, length, get_or, sym, refl, ap, ◌∙◌, ap₂, inl, inr, append_assoc, append-nil, arith}
+use Rattle.std.proofs.Common.{◌≡◌, ℕ, zero, suc, ◌-◌, ◌%◌, ◌<◌, ◌≤◌, Bool, true, false, cond, ◌&&◌, eqb, ◌≢◌, ◌⊎◌, List, [], ◌∷◌, ◌++◌, map, length, get_or, sym, refl, ap, ◌∙◌, ap₂, inl, inr, append_assoc, append-nil, arith}
 use mathlib.Core.Logic.{dite, dif_pos}
 use mathlib.Core.HLevel.{dec→stable}
 use mathlib.Core.List.Memᴰ
 use mathlib.Core.List.{Memᴰ}
 use native.Mathlib.Bridge.{le_prop}
 use native.Mathlib.Decide.{ℕ_discrete, dec_lt, dec_le}
-use Rattle.std.proofs.lemmas.Bool.{cases_lt, cases_order, cond_both, cond-true, cond-false, eqb-true, eq-eqb, and_parts, and_from}
-use Rattle.linear.specs.Sums.{fold}
-use Rattle.patch.specs.Records.{Record, filler, cell, off, on, outlet, unmarked, unclean, read, records, declare, declared, input, nth, reads, cells_of}
-use Rattle.patch.specs.Faults.{position, Order, Later, Arc, Fine, AllFine, Patch}
+use Rattle.std.proofs.lemmas.Bool.{cases_lt, cases_order, cond_both, eqb-true, eq-eqb, and_parts, and_from}
+use Rattle.patch.specs.Records.{Record, filler, cell, off, on, outlet, unmarked, unclean, read, records, declare, declared, nth, reads, cells_of}
+use Rattle.patch.specs.Faults.{Order, Fine, AllFine, Patch}
 use Rattle.patch.specs.Paths.{target, code, on_from, starts, Among}
 use Rattle.patch.specs.Settled.{Plain, rank, source, Precedes, Head, Kept}
 use Rattle.patch.specs.Encoding.{four, written, diagram_records, encode, EchelonNumbers}
-use Rattle.patch.proofs.Facts.{Facts, facts_of, inside}
-use Rattle.patch.proofs.Each.{Each, each_map, each_among, each_nth, Pairs, pairs_nth, nth_among}
-use Rattle.patch.proofs.Encoded.{Real, Shape, shape_of, there, there_out, kept_rs, all_cells, inputs, inputs_length, inputs_at}
+use Rattle.patch.proofs.Facts.{Facts, facts_of}
+use Rattle.patch.proofs.Each.{Each, each_map, each_among, Pairs, nth_among}
+use Rattle.patch.proofs.Encoded.{Real, Shape, shape_of, there, there_out, kept_rs, all_cells, inputs_length, inputs_at}
 
 -- bytes are those of their records
 read_four : (m a b c : ℕ) → Real (read m a b c) → four (read m a b c) ≡ m ∷ a ∷ b ∷ c ∷ []

@@ -1,11 +1,11 @@
 -- What holds of each record of a list, and of each two. Assumes nothing.
-use Rattle.std.proofs.Common.{◌≡◌, ℕ, zero, suc, ◌+◌, ◌<◌, ◌≤◌, Bool, true, false, cond, eqb, ◌≢◌, ◌⊎◌, List, [], ◌∷◌, ◌++◌, length, sym, refl, ap, ◌∙◌, inl, inr, arith}
+use Rattle.std.proofs.Common.{◌≡◌, ℕ, zero, suc, ◌<◌, Bool, true, false, cond, eqb, ◌≢◌, List, [], ◌∷◌, ◌++◌, length, refl, inl, inr, arith}
 use mathlib.Core.List.Memᴰ
 use Rattle.linear.specs.Sums.{fold}
-use Rattle.patch.specs.Records.{Record, filler, nth}
+use Rattle.patch.specs.Records.{Record, nth}
 use Rattle.patch.specs.Paths.{Among}
 use Rattle.patch.specs.Encoding.{unless_zero}
-use Rattle.std.proofs.lemmas.Bool.{eqb-false, cond-false, ne_eqb}
+use Rattle.std.proofs.lemmas.Bool.{eqb-false, ne_eqb}
 
 abbrev pub Each : (Record → Type 0) → List Record → Type 0
 Each P [] = Unit

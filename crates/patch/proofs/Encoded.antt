@@ -1,19 +1,19 @@
 -- The encoding of a diagram in echelon form is a patch that keeps the order and the first four conditions. Assumes nothing.
-use Rattle.std.proofs.Common.{◌≡◌, ℕ, zero, suc, ◌+◌, ◌-◌, ◌%◌, ◌<◌, ◌≤◌, Bool, true, false, cond, ◌≢◌, ◌⊎◌, List, [], ◌∷◌, ◌++◌, length, get_or, sym, refl, ap, ◌∙◌, ap₂, inl, inr, arith, length-append}
+use Rattle.std.proofs.Common.{◌≡◌, ℕ, zero, suc, ◌-◌, ◌%◌, ◌<◌, ◌≤◌, ◌≢◌, ◌⊎◌, List, [], ◌∷◌, ◌++◌, length, get_or, sym, refl, ap, ◌∙◌, inl, inr, arith, length-append}
 use mathlib.Core.List.Memᴰ
 use native.Mathlib.Decide.{ℕ_discrete}
 use lib.ListN.{get_or-append}
 use Rattle.std.proofs.lemmas.Bool.{cases_lt, cases_order}
 use Rattle.linear.specs.Sums.{fold}
 use Rattle.patch.specs.Records.{Record, filler, cell, off, on, outlet, unmarked, unclean, records, declare, declared, input, nth, reads, cells_of}
-use Rattle.patch.specs.Faults.{position, Order, Later, Arc, Fine, AllFine, Patch}
+use Rattle.patch.specs.Faults.{Order, Later, Fine, AllFine, Patch}
 use Rattle.patch.specs.Paths.{target, Among}
 use Rattle.patch.specs.Settled.{Plain, rank, source, Precedes, Head, Kept}
-use Rattle.patch.specs.Encoding.{four, written, unless_zero, cell_records, on_records, outlet_records, diagram_records, encode, EchelonNumbers}
-use Rattle.patch.proofs.Facts.{Facts, facts_of, inside}
+use Rattle.patch.specs.Encoding.{written, unless_zero, cell_records, on_records, outlet_records, diagram_records, encode, EchelonNumbers}
+use Rattle.patch.proofs.Facts.{inside}
 use Rattle.patch.proofs.Held.{Small, written_held}
 use Rattle.patch.proofs.Gather.{gather_mem}
-use Rattle.patch.proofs.Each.{Each, each_append, each_map, each_gather, each_unless, each_among, each_nth, among_unless, Pairs, pairs_append, pairs_gather, pairs_unless, pairs_nth, nth_among}
+use Rattle.patch.proofs.Each.{Each, each_append, each_map, each_gather, each_unless, each_among, among_unless, Pairs, pairs_append, pairs_gather, pairs_unless, pairs_nth}
 
 -- records that have bytes
 abbrev pub Real : Record → Type 0

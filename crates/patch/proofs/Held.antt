@@ -1,5 +1,5 @@
 -- What fits into bytes: the numbers of the records of a patch, and the bytes that records are written to. Assumes nothing.
-use Rattle.std.proofs.Common.{◌≡◌, ℕ, zero, suc, ◌<◌, ◌≤◌, Bool, ◌&&◌, eqb, ◌⊎◌, List, [], ◌∷◌, ◌++◌, length, get_or, sym, ap, ◌∙◌, inl, inr, arith}
+use Rattle.std.proofs.Common.{ℕ, zero, suc, ◌<◌, ◌&&◌, eqb, List, [], ◌∷◌, length, inl, inr, arith}
 use native.Mathlib.Decide.{dec_lt}
 use lib.ListN.{get_or-eq_default}
 use Rattle.std.proofs.lemmas.Bool.{cases_lt, cond_both}
@@ -7,7 +7,7 @@ use Rattle.patch.specs.Records.{Record, filler, cell, off, on, outlet, unmarked,
 use Rattle.patch.specs.Faults.{Bytes, Patch}
 use Rattle.patch.specs.Paths.{target}
 use Rattle.patch.specs.Settled.{Kept}
-use Rattle.patch.specs.Encoding.{four, written}
+use Rattle.patch.specs.Encoding.{written}
 use Rattle.patch.proofs.Each.{Each, each_among, each_nth}
 
 -- the numbers of a record fit into bytes

@@ -10,7 +10,7 @@ use Rattle.patch.specs.declared.refusal.Refusal.TheVariants.{UnknownMark, NotZer
 use Rattle.patch.specs.Records.{Record, filler, cell, off, on, outlet, unmarked, unclean, read, input}
 use Rattle.patch.specs.Faults.{position, later, arc_fault, fault, Fine}
 use Rattle.patch.specs.Refusals.{number, place}
-use Rattle.patch.specs.Judging.{meant, Holds, Says, fine, faulty, four, Judges, told}
+use Rattle.patch.specs.Judging.{meant, Holds, Says, fine, faulty, Judges, told}
 
 -- the judgement on four bytes at a place, when `count` cells stand before them and cell f reads `reads f`
 abbrev pub judged_four : List ℕ → ℕ → ℕ → ℕ → (ℕ → ℕ) → ℕ → ℕ → ℕ → ℕ → ℕ → Result Entry Refusal

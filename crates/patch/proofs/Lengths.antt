@@ -1,8 +1,8 @@
 -- How long the encoding of a diagram of k cells is at most. Assumes nothing.
-use Rattle.std.proofs.Common.{◌≡◌, ℕ, zero, suc, ◌+◌, ◌*◌, ◌<◌, ◌≤◌, Bool, true, false, cond, eqb, List, [], ◌∷◌, ◌++◌, length, ap, ◌∙◌, mul_comm, mul-le-mul, mul-suc, arith, length-append}
+use Rattle.std.proofs.Common.{ℕ, zero, suc, ◌*◌, ◌<◌, ◌≤◌, Bool, true, false, cond, eqb, List, [], ◌∷◌, ◌++◌, length, mul_comm, mul-le-mul, mul-suc, arith, length-append}
 use Rattle.linear.specs.Sums.{fold}
 use Rattle.patch.specs.Records.{Record, filler, cell, off, on, outlet, unmarked, unclean}
-use Rattle.patch.specs.Encoding.{four, written, unless_zero, cell_records, on_records, outlet_records, diagram_records, encode}
+use Rattle.patch.specs.Encoding.{written, unless_zero, cell_records, on_records, outlet_records, diagram_records, encode}
 
 written_most : (rs : List Record) → length (written rs) ≤ 4 * length rs
 written_most [] = omega arith

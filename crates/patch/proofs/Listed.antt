@@ -1,10 +1,9 @@
 -- The list of paths holds exactly the paths, each once. Assumes nothing.
-use Rattle.std.proofs.Common.{◌≡◌, ℕ, zero, suc, ◌+◌, ◌<◌, ◌≤◌, Bool, true, false, cond, eqb, ◌≢◌, ◌⊎◌, ◌↔◌, List, [], ◌∷◌, ◌++◌, map, length, sym, refl, ap, ◌∙◌, subst, inl, inr, arith}
+use Rattle.std.proofs.Common.{◌≡◌, ℕ, zero, suc, ◌+◌, ◌<◌, ◌≤◌, Bool, true, false, cond, ◌≢◌, ◌⊎◌, ◌↔◌, List, [], ◌∷◌, map, length, sym, refl, ap, ◌∙◌, inl, inr, arith}
 use mathlib.Core.List.Memᴰ
 use Rattle.std.proofs.lemmas.Bool.{eqb-true, eq-eqb, cond-true, cond-false}
-use Rattle.linear.specs.Sums.{fold}
-use Rattle.patch.specs.Records.{Record, filler, cell, off, on, outlet, unmarked, unclean, records, declared, nth, reads, cells_of}
-use Rattle.patch.specs.Faults.{position, Order, Patch, Fine, Arc, Later}
+use Rattle.patch.specs.Records.{Record, filler, cell, off, on, outlet, unmarked, unclean, records, declared, nth, reads}
+use Rattle.patch.specs.Faults.{position, Order, Patch, Arc}
 use Rattle.patch.specs.Paths.{Walk, arrived, by_off, by_on, IsPath, from_outlet, target, off_from, on_from, opens, starts, walks, paths, Among, Distinct}
 use Rattle.patch.proofs.Facts.{Facts, facts, inside}
 use Rattle.patch.proofs.Gather.{gather_mem, mem_gather, headed, distinct_headed}

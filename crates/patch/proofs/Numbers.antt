@@ -5,7 +5,6 @@ use native.Mathlib.Decide.{ℕ_discrete, dec_lt}
 use lib.Bits.{bit_and, bit_xor}
 use Rattle.std.proofs.lemmas.Bool.{and_parts, cond_both, eqb-true}
 use Rattle.linear.specs.Codes.{CodeField, Code, code_eq, codes, as_code}
-use Rattle.linear.specs.Field.{Field}
 use Rattle.linear.specs.Sums.{fold, sum}
 use Rattle.linear.proofs.Codes.{coded_number, fold_cong, sum_number}
 use Rattle.linear.proofs.Sums.{sum_cong}

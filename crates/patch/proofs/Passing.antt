@@ -1,9 +1,8 @@
 -- Numbers that pass the check for at most 256 places and codes are bytes, and so a patch. Assumes nothing.
-use Rattle.std.proofs.Common.{◌≡◌, ℕ, ◌%◌, ◌<◌, ◌≤◌, Bool, true, false, cond, eqb, List, [], ◌∷◌, length, sym, refl, ◌∙◌, subst, arith}
+use Rattle.std.proofs.Common.{◌≡◌, ℕ, ◌%◌, ◌<◌, ◌≤◌, Bool, true, false, cond, eqb, List, [], ◌∷◌, length, refl, subst, arith}
 use Rattle.std.proofs.lemmas.Bool.{eqb-true}
 use Rattle.patch.specs.Records.{Record, filler, cell, off, on, outlet, unmarked, unclean, records, declare, declared, cells_of}
-use Rattle.patch.specs.Faults.{Verdict, passed, refused, check_from, check_patch, Bytes, Fine, AllFine, Patch}
-use Rattle.patch.specs.Encoding.{written}
+use Rattle.patch.specs.Faults.{passed, refused, check_from, check_patch, Bytes, Fine, AllFine, Patch}
 use Rattle.patch.proofs.Checked.{declare_more, declared_more, sound_fine, no_sound}
 use Rattle.patch.proofs.Decoded.{rebuilt, all_real}
 use Rattle.patch.proofs.Each.{Each}

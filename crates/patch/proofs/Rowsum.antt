@@ -1,21 +1,21 @@
 -- The rule of the encoding of a diagram in echelon form is the diagram's rule. Assumes nothing.
-use Rattle.std.proofs.Common.{◌≡◌, ℕ, zero, suc, ◌+◌, ◌<◌, ◌≤◌, Bool, true, false, cond, eqb, ◌≢◌, ◌⊎◌, List, [], ◌∷◌, ◌++◌, length, sym, refl, ap, ◌∙◌, ap₂, inl, inr, arith}
+use Rattle.std.proofs.Common.{◌≡◌, ℕ, zero, suc, ◌<◌, ◌≤◌, Bool, true, false, cond, eqb, List, [], ◌∷◌, ◌++◌, length, sym, refl, ap, ◌∙◌, ap₂, arith}
 use Rattle.std.proofs.lemmas.Bool.{eqb-true, eq-eqb, ne_eqb, cond-true, cond-false}
-use Rattle.linear.specs.Codes.{CodeField, Code, code_eq, codes}
+use Rattle.linear.specs.Codes.{CodeField, Code, codes}
 use Rattle.linear.specs.Field.{Field}
 use Rattle.linear.specs.Sums.{fold, sum}
 use Rattle.linear.proofs.Ring.{zero_plus, zero_times}
 use Rattle.linear.proofs.Codes.{fold_cong}
 use Rattle.linear.proofs.Sums.{sum_cong, sum_zero, sum_single}
-use Rattle.patch.specs.Records.{Record, filler, cell, off, on, outlet, unmarked, unclean, records, nth, reads, cells_of}
-use Rattle.patch.specs.Faults.{Order, Patch}
-use Rattle.patch.specs.Paths.{target, code, off_from, on_from, opens, starts, path_sum, bit, rule}
+use Rattle.patch.specs.Records.{Record, cell, on, outlet, records, nth, reads, cells_of}
+use Rattle.patch.specs.Faults.{Order}
+use Rattle.patch.specs.Paths.{target, code, off_from, on_from, opens, starts, path_sum}
 use Rattle.patch.specs.Encoding.{written, unless_zero, cell_records, on_records, outlet_records, diagram_records, encode, EchelonNumbers, RowValues}
-use Rattle.patch.proofs.Each.{Each, each_gather, each_unless}
-use Rattle.patch.proofs.Encoded.{back, rs_fine, count_is, reads_is, is_patch}
+use Rattle.patch.proofs.Each.{Each, each_gather}
+use Rattle.patch.proofs.Encoded.{back, rs_fine, count_is, reads_is}
 use Rattle.patch.proofs.Facts.{Facts, facts_of}
-use Rattle.patch.proofs.Numbers.{lift, lift_number, lift_is, dot_number, rule_in_field, flow_lift, has_values}
-use Rattle.patch.proofs.Values.{flow_in, push_cond, cond_when}
+use Rattle.patch.proofs.Numbers.{lift, lift_is, dot_number, rule_in_field, flow_lift, has_values}
+use Rattle.patch.proofs.Values.{flow_in, push_cond}
 
 module _ {K : Type 0} (F : Field K) where
   open F use {plus as ◌⊕◌, times as ◌⊗◌}

@@ -1,11 +1,11 @@
 -- Computed. Assumes nothing.
-use Rattle.std.proofs.Common.{◌≡◌, ℕ, zero, suc, ◌<◌, ◌≤◌, ◌≢◌, List, [], ◌∷◌, refl, arith}
+use Rattle.std.proofs.Common.{◌≡◌, ℕ, zero, suc, ◌<◌, ◌≤◌, ◌≢◌, refl, arith}
 use lib.Bits.{bit_and, bit_xor}
 use Rattle.linear.specs.Codes.{CodeField}
 use Rattle.linear.specs.Sums.{fold}
 use Rattle.linear.proofs.Tested.{Passes, tested, inverse}
 use Rattle.patch.specs.Encoding.{EchelonNumbers, diagram_records}
-use Rattle.patch.specs.Faults.{position, Order}
+use Rattle.patch.specs.Faults.{Order}
 use Rattle.patch.specs.Paths.{walks, paths}
 use Rattle.patch.specs.Samples.{Samples, plain_order, inp, row, out, head}
 

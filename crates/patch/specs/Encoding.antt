@@ -1,5 +1,5 @@
 -- The encoding of a diagram of k cells without off arcs: inp has the inputs that the cells read, row j the codes of cell j's on arcs, by target, and out those of the outlet arcs. Assumes nothing.
-use Rattle.std.specs.Prelude.{◌≡◌, ℕ, zero, suc, ◌<◌, ◌≤◌, Bool, cond, ◌≢◌, List, [], ◌∷◌, ◌++◌, length, ◌==◌}
+use Rattle.std.specs.Prelude.{◌≡◌, ℕ, suc, ◌<◌, ◌≤◌, Bool, cond, ◌≢◌, List, [], ◌∷◌, ◌++◌, length, ◌==◌}
 use Rattle.linear.specs.Sums.{fold}
 use Rattle.patch.specs.Records.{Record, filler, cell, off, on, outlet, unmarked, unclean}
 use Rattle.patch.specs.Faults.{position}

@@ -1,7 +1,7 @@
 -- The values of a patch's cells, and the rows of its diagram. Assumes nothing.
-use Rattle.std.specs.Prelude.{◌≡◌, ℕ, suc, ◌+◌, ◌<◌, ◌≤◌, Bool, true, cond, ◌&&◌, List, [], ◌∷◌, map, length, ◌==◌}
+use Rattle.std.specs.Prelude.{◌≡◌, ℕ, suc, ◌+◌, ◌<◌, ◌≤◌, Bool, true, cond, ◌&&◌, List, [], ◌∷◌, length, ◌==◌}
 use Rattle.linear.specs.Sums.{fold}
-use Rattle.patch.specs.Records.{Record, nth, reads, cells_of}
+use Rattle.patch.specs.Records.{Record, nth, cells_of}
 use Rattle.patch.specs.Paths.{target, code, off_from, on_from, opens, starts}
 
 module _ (plus times : ℕ → ℕ → ℕ) (rs : List Record) where

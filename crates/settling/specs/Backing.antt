@@ -1,6 +1,6 @@
 -- The backward pass underway: the canonical cells made so far stand from strip 288 on, with their positions in a list; a table of rows by
 -- head stands from strip 256 on, and the images of the places, over the canonical cells, from strip 384 on.
-use Rattle.std.specs.Prelude.{◌≡◌, ℕ, ◌+◌, ◌-◌, ◌<◌, ◌≤◌, Bool, true, false, ◌≢◌, List, slice_index, slice_index_or}
+use Rattle.std.specs.Prelude.{◌≡◌, ℕ, ◌+◌, ◌<◌, ◌≤◌, Bool, true, false, ◌≢◌, List, slice_index, slice_index_or}
 use Rattle.std.proofs.Math.Decide.{ℕ_discrete}
 use Rattle.linear.specs.Linear.{comb}
 use Rattle.diagram.specs.Canonical.{Derived, Canonical}

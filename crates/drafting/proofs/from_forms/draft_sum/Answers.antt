@@ -1,4 +1,4 @@
-use Rattle.std.proofs.Common.{◌≡◌, ℕ, ◌+◌, ◌<◌, refl, ap, ◌∙◌, subst, ap₂, arith}
+use Rattle.std.proofs.Common.{ℕ, ◌+◌, ◌<◌, refl, ap, ◌∙◌, subst, ap₂, arith}
 use Rattle.elimination.specs.Arithmetic.{arithmetic}
 use Rattle.elimination.specs.Lift.{scalars, up}
 use Rattle.elimination.proofs.Lifting.{up_added}

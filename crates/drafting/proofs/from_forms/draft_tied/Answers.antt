@@ -1,4 +1,4 @@
-use Rattle.std.proofs.Common.{◌≡◌, ℕ, ◌<◌, ◌∙◌, subst, arith}
+use Rattle.std.proofs.Common.{ℕ, ◌<◌, ◌∙◌, subst, arith}
 use Rattle.drafting.specs.Plan.{Placed}
 use Rattle.drafting.proofs.Bounding.{ordered}
 use Rattle.drafting.proofs.Laying.{moved_outlet}

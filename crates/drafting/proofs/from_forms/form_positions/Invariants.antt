@@ -1,4 +1,4 @@
-use Rattle.std.proofs.Common.{◌≡◌, ℕ, length}
+use Rattle.std.proofs.Common.{◌≡◌, length}
 use Rattle.patch.specs.Orders.{listed}
 use Rattle.drafting.specs.Forms.{Positioned}
 use Rattle.drafting.proofs.from_forms.form_positions.Given as goal

@@ -1,4 +1,4 @@
-use Rattle.std.proofs.Common.{◌≡◌, ℕ, ◌<◌, ◌≤◌, sym, ap, ◌∙◌, subst, arith}
+use Rattle.std.proofs.Common.{sym, ap, ◌∙◌, subst, arith}
 use Rattle.patch.specs.Judging.{meant}
 use Rattle.patch.specs.Records.{Record}
 use Rattle.drafting.specs.Arcs.{spots, Entered}

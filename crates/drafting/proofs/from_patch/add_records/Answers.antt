@@ -1,8 +1,8 @@
-use Rattle.std.proofs.Common.{◌≡◌, ℕ, ◌<◌, length, sym, refl, ap, ◌∙◌, subst, arith}
+use Rattle.std.proofs.Common.{◌≡◌, ℕ, ◌<◌, length, refl, ap, ◌∙◌, subst, arith}
 use Rattle.elimination.specs.Lift.{some_code}
 use Rattle.patch.specs.Judging.{meant}
 use Rattle.patch.specs.Paths.{code}
-use Rattle.patch.specs.Records.{Record, records, nth}
+use Rattle.patch.specs.Records.{records}
 use Rattle.patch.specs.Windows.{seen}
 use Rattle.strip.specs.Row.{Row}
 use Rattle.drafting.specs.Arcs.{spots, Summed}

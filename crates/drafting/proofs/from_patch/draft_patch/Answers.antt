@@ -1,4 +1,4 @@
-use Rattle.std.proofs.Common.{◌≡◌, ℕ, ◌<◌, length, ap, ◌∙◌, subst, arith}
+use Rattle.std.proofs.Common.{ℕ, ◌<◌, length, ap, ◌∙◌, subst, arith}
 use Rattle.patch.specs.Faults.{Patch}
 use Rattle.patch.specs.Orders.{listed}
 use Rattle.patch.specs.Records.{records, cells_of}

@@ -1,8 +1,7 @@
-use Rattle.std.proofs.Common.{◌≡◌, ℕ, ◌≤◌, refl, subst, arith}
+use Rattle.std.proofs.Common.{◌≡◌, ℕ, refl, subst, arith}
 use Rattle.drafting.specs.Plan.{Placing, Placed}
 use Rattle.drafting.proofs.Planning.{started, next_position, finished}
 use Rattle.drafting.proofs.plan.place_cells.Goals as goal
-use Rattle.drafting.proofs.plan.place_cells.Given as given
 
 pub loop-p-init : goal.loop-p-init
 loop-p-init c = (started c.args.positions.now c.args.count c.args.n, refl)

@@ -1,4 +1,4 @@
-use Rattle.std.proofs.Common.{◌<◌, ◌∙◌, arith, length-set}
+use Rattle.std.proofs.Common.{◌∙◌, arith, length-set}
 use Rattle.drafting.proofs.Planning.{passed, placed, room}
 use Rattle.drafting.proofs.plan.place_position.Goals as goal
 use Rattle.drafting.proofs.plan.place_position.Goals.{then-positions-c, else-positions-c}

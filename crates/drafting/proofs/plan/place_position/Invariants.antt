@@ -1,4 +1,4 @@
-use Rattle.std.proofs.Common.{◌≡◌, ℕ, length}
+use Rattle.std.proofs.Common.{◌≡◌, length}
 use Rattle.drafting.specs.Plan.{Placing}
 use Rattle.drafting.proofs.plan.place_position.Given as goal
 

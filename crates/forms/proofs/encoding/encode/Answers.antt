@@ -1,8 +1,8 @@
-use Rattle.std.proofs.Common.{◌≡◌, suc, ◌+◌, ◌<◌, sym, refl, ap, ◌∙◌, arith}
+use Rattle.std.proofs.Common.{sym, arith}
 use Rattle.elimination.specs.Rows.{Rows}
 use Rattle.patch.specs.Output.{Put}
 use Rattle.patch.proofs.Putting.{put_then, put_as, put_length}
-use Rattle.forms.specs.Forms.{form_bytes, arc_bytes}
+use Rattle.forms.specs.Forms.{form_bytes}
 use Rattle.forms.proofs.Filling.{base_row}
 use Rattle.forms.proofs.Writing.{joined, first_bytes}
 use Rattle.forms.proofs.encoding.encode.Goals as goal

@@ -1,4 +1,4 @@
-use Rattle.std.proofs.Common.{◌≡◌, ℕ, suc, ◌+◌, ◌-◌, ◌<◌, [], ◌++◌, sym, refl, ap, ◌∙◌, arith}
+use Rattle.std.proofs.Common.{sym, ◌∙◌, arith}
 use Rattle.linear.specs.Sums.{fold}
 use Rattle.patch.proofs.Putting.{put_none, put_then, put_as}
 use Rattle.forms.proofs.Writing.{arc_more, arc_none}

@@ -1,4 +1,4 @@
-use Rattle.std.proofs.Common.{◌≡◌, ◌+◌, length, sym, refl, arith}
+use Rattle.std.proofs.Common.{◌≡◌, length, refl, arith}
 use Rattle.forms.proofs.Writing.{four_laid}
 use Rattle.forms.proofs.encoding.put_record.Goals as goal
 

@@ -1,9 +1,8 @@
-use Rattle.std.proofs.Common.{◌≡◌, ℕ, suc, ◌+◌, ◌-◌, ◌<◌, [], ◌++◌, length, sym, refl, ap, ◌∙◌, arith}
+use Rattle.std.proofs.Common.{sym, arith}
 use Rattle.linear.specs.Sums.{fold}
 use Rattle.elimination.specs.Rows.{Rows}
 use Rattle.elimination.proofs.Grids.{rows_at}
 use Rattle.patch.proofs.Putting.{put_none, put_then, put_as}
-use Rattle.forms.specs.Forms.{arc_bytes, row_bytes}
 use Rattle.forms.proofs.Writing.{row_more}
 use Rattle.forms.proofs.encoding.put_rows.Goals as goal
 

@@ -1,4 +1,4 @@
-use Rattle.std.proofs.Common.{◌+◌, ◌-◌, ◌*◌, ◌≤◌}
+use Rattle.std.proofs.Common.{◌-◌, ◌*◌, ◌≤◌}
 use Rattle.elimination.specs.Rows.{Rows}
 use Rattle.patch.specs.Output.{Put}
 use Rattle.forms.specs.Forms.{row_bytes}

@@ -1,4 +1,4 @@
-use Rattle.std.proofs.Common.{◌≡◌, ℕ, zero, suc, ◌+◌, ◌<◌, ◌≤◌, ◌≢◌, sym, refl, ap, ◌∙◌, arith, length-set, get_or-set_other}
+use Rattle.std.proofs.Common.{zero, suc, ◌≢◌, sym, refl, ap, ◌∙◌, arith, length-set, get_or-set_other}
 use Rattle.elimination.specs.Rows.{Rows}
 use Rattle.elimination.proofs.Grids.{rows_at}
 use Rattle.strip.specs.Row.{Row}

@@ -1,4 +1,4 @@
-use Rattle.std.proofs.Common.{◌≡◌, ℕ, ◌-◌, ◌<◌, ◌≤◌, length, get_or}
+use Rattle.std.proofs.Common.{◌≡◌, ℕ, ◌-◌, ◌≤◌, length, get_or}
 use Rattle.elimination.specs.Rows.{Rows}
 use Rattle.forms.specs.Sounding.{Valued}
 use Rattle.forms.proofs.evaluate.cell_values.Given as goal

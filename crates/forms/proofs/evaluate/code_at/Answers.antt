@@ -1,5 +1,4 @@
-use Rattle.std.proofs.Common.{◌≡◌, ◌+◌, sym, refl, ap, ◌∙◌, arith}
-use Rattle.elimination.specs.Rows.{Rows}
+use Rattle.std.proofs.Common.{◌+◌, sym, ap, ◌∙◌, arith}
 use Rattle.strip.specs.Row.{Row}
 use Rattle.forms.specs.Sounding.{weighed_up}
 use Rattle.forms.proofs.Filling.{base_row}

@@ -1,4 +1,3 @@
-use Rattle.std.proofs.Common.{◌≡◌, sym, refl, ◌∙◌}
 use Rattle.elimination.specs.Lift.{some_code}
 use Rattle.elimination.proofs.Lifting.{up_zero}
 use Rattle.linear.specs.Sums.{fold}

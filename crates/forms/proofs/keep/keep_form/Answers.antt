@@ -1,7 +1,6 @@
-use Rattle.std.proofs.Common.{◌≡◌, ℕ, ◌+◌, ◌<◌, ◌≤◌, length, sym, refl, ap, ◌∙◌, arith, length-set}
+use Rattle.std.proofs.Common.{sym, ◌∙◌, arith, length-set}
 use Rattle.elimination.proofs.Grids.{rows_read}
 use Rattle.elimination.specs.Rows.{Rows}
-use Rattle.forms.specs.Keeping.{form_rows}
 use Rattle.forms.proofs.Filling.{start_row, first_set, from_first, one_more, all_filled, cell_row, no_cell_row}
 use Rattle.forms.proofs.keep.keep_form.Goals as goal
 use Rattle.forms.proofs.keep.keep_form.Goals.{then-k-form, else-k-form}

@@ -1,16 +1,8 @@
-use Rattle.std.proofs.Common.{[], length, ap, ◌∙◌, arith}
-use Rattle.patch.specs.Records.{records, declared, nth, cells_of}
-use Rattle.patch.specs.Paths.{bit, paths, off_from, starts}
-use Rattle.patch.proofs.Bits as bts
+use Rattle.std.proofs.Common.{[]}
+use Rattle.patch.specs.Records.{records}
 use Rattle.patch.proofs.Checked as chk
-use Rattle.patch.proofs.Decoded as dec
-use Rattle.patch.proofs.Encoded as enc
-use Rattle.patch.proofs.Rowsum as row
 use Rattle.patch.proofs.Samples as sam
 use Rattle.patch.proofs.Tables as tab
-use Rattle.patch.proofs.Facts as fac
-use Rattle.patch.proofs.Listed as lis
-use Rattle.patch.proofs.Numbers as num
 use Rattle.patch.proofs.theorems.check_finds_faults.Goals as goal
 
 pub returns : goal.returns

@@ -1,4 +1,4 @@
-use Rattle.std.proofs.Common.{◌-◌, ◌<◌, ◌≤◌, ◌∙◌, inl, arith}
+use Rattle.std.proofs.Common.{◌<◌, ◌≤◌, ◌∙◌, inl, arith}
 use Rattle.settling.proofs.Blocks.{source_past, too_many, cellular', backs'}
 use Rattle.settling.proofs.Counting.{each_way}
 use Rattle.settling.proofs.canonicalise.back_block.Goals as goal

@@ -1,4 +1,4 @@
-use Rattle.std.proofs.Common.{◌-◌, ◌<◌, ◌≤◌, length, ◌∙◌, arith, get_or-set_same}
+use Rattle.std.proofs.Common.{◌<◌, ◌≤◌, length, ◌∙◌, arith, get_or-set_same}
 use Rattle.elimination.proofs.Sums.{at}
 use Rattle.settling.proofs.canonicalise.lay_steady.Goals as goal
 

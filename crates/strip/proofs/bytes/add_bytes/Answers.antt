@@ -1,5 +1,5 @@
-use Rattle.std.proofs.Common.{◌≡◌, ◌<◌, ◌≤◌, ⊎_elim, arith}
-use Rattle.strip.proofs.ByteRows.{Adding, adding_more, sum_is, added, added_zero, added_off}
+use Rattle.std.proofs.Common.{◌≡◌, ⊎_elim, arith}
+use Rattle.strip.proofs.ByteRows.{adding_more, sum_is, added, added_zero, added_off}
 use Rattle.strip.proofs.bytes.add_bytes.Goals as goal
 
 pub returns-then-c-eq0 : goal.returns-then-c-eq0

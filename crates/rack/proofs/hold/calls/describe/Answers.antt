@@ -1,4 +1,4 @@
-use Rattle.std.proofs.Common.{◌≡◌, ℕ, zero, suc, ◌+◌, ◌<◌, ◌≤◌, sym, refl, ap, ◌∙◌, arith, length-set}
+use Rattle.std.proofs.Common.{refl, ◌∙◌, arith, length-set}
 use Rattle.patch.specs.Orders.{listed}
 use Rattle.forms.proofs.Arrays.{zeros_at}
 use Rattle.rack.proofs.Describing.{none_noted, one_noted}

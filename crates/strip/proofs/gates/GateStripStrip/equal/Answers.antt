@@ -1,4 +1,4 @@
-use Rattle.std.proofs.Common.{◌≡◌, ◌^◌, ◌<◌, get_or, eqb→eq, rules}
+use Rattle.std.proofs.Common.{◌^◌, ◌<◌, get_or, eqb→eq, rules}
 use lib.Dec.{eqb_refl}
 use Rattle.strip.specs.WordRows.{same_rows, same_low, same_high}
 use Rattle.strip.proofs.gates.GateStripStrip.equal.Goals as goal
