@@ -5,3 +5,4 @@ pub mod Counting
 pub mod Levelling
 pub mod Blocks
 pub mod Ends
+pub mod Whole
