@@ -13,7 +13,7 @@ use Rattle.elimination.specs.Lift.{Element, scalars, some_code, up, Grid}
 use Rattle.elimination.specs.Rows.{Rows, Outside}
 use Rattle.elimination.proofs.Grids.{rows_coded}
 use Rattle.elimination.proofs.Lifting.{up_plus}
-use Rattle.patch.specs.Paths.{code as byte_code}
+use Rattle.patch.specs.Paths.{code as code_of_record}
 use Rattle.patch.specs.Records.{Record, filler, cell, off, on, outlet}
 use Rattle.drafting.specs.Arcs.{only, Entered}
 use Rattle.drafting.specs.Drafts.{AddedAt, AddedIn}
@@ -127,11 +127,11 @@ module _ (M : ScaleModel) where
       }
 
     -- the same, for any record that is such an arc, and places that are where its cells stand
-    module _ (r : Record) (small : byte_code r < M.q) (v : ℕ) (inside : v < len) where
+    module _ (r : Record) (small : code_of_record r < M.q) (v : ℕ) (inside : v < len) where
       pub entered_outlet : (t c : ℕ) → r ≡ outlet t c → v ≡ ρ t → (w : List S) (o o' : Row) → AddedAt M len o v c o' → ((p : ℕ) → o p < M.q) → Entered M code ρ r w o w o'
       entered_outlet t c is v_is w o o' a below =
           subst (λ (x : Record). Entered M code ρ x w o w o') (sym is) (
-          enter_outlet t c w o o' (subst (λ (p : ℕ). AddedAt M len o p c o') v_is a) (rw v_is at inside) (subst (λ (x : Record). byte_code x < M.q) is small) below)
+          enter_outlet t c w o o' (subst (λ (p : ℕ). AddedAt M len o p c o') v_is a) (rw v_is at inside) (subst (λ (x : Record). code_of_record x < M.q) is small) below)
 
       module _ (h : ℕ) (low : h < 128) (o : Row) (f t c : ℕ) (h_is : h ≡ ρ f) (v_is : v ≡ ρ t) where
         abbrev Adds : List S → ℕ → ℕ → List S → Type 0
@@ -149,11 +149,11 @@ module _ (M : ScaleModel) where
         entered_on is w w' a =
             let b = adds w 128 c w' a in
             subst (λ (x : Record). Entered M code ρ x w o w' o) (sym is) (
-            enter_on f t c (omega arith) (omega arith) (subst (λ (x : Record). byte_code x < M.q) is small) o w w' b.0 b.1)
+            enter_on f t c (omega arith) (omega arith) (subst (λ (x : Record). code_of_record x < M.q) is small) o w w' b.0 b.1)
 
         pub entered_off : r ≡ off f t c → (w w₁ w₂ : List S) (d : ℕ) → d ≡ at_code M.q M.neg c → Adds w 0 c w₁ → Adds w₁ 128 d w₂ → Entered M code ρ r w o w₂ o
         entered_off is w w₁ w₂ d neg a₁ a₂ =
-            let few : c < M.q = subst (λ (x : Record). byte_code x < M.q) is small in
+            let few : c < M.q = subst (λ (x : Record). code_of_record x < M.q) is small in
             let b₁ = adds w 0 c w₁ a₁ in
             let b₂ = adds w₁ 128 d w₂ a₂ in
             subst (λ (x : Record). Entered M code ρ x w o w₂ o) (sym is) (

@@ -112,11 +112,11 @@ module _ (M : ScaleModel) {S : Type 0} (code : S → Row) (s : ScanOrder) (ps : 
         → ((t : ℕ) → 0 < t → t ≤ form.count → (u : ℕ) → Grid M code w 0 (ρ t) u ≡ along F (form.count + 1) ρ (off t) u)
         → ((t : ℕ) → 0 < t → t ≤ form.count → (u : ℕ) → Grid M code w 128 (ρ t) u ≡ along F (form.count + 1) ρ (dif t) u)
         → Embeds F (rowed P off dif o) (diagram_in w out) ρ
-    embeds w out off dif o off_none dif_none off-last dif-last offs difs = record {
+    embeds w out off dif o off_none dif_none off_last dif_last offs difs = record {
       inside = λ t l. let h = place_low plan from t in omega arith;
       pos = place_pos;
-      off = λ t u l _. row 0 off off_none off-last offs t u l;
-      dif = λ t u l _. row 128 dif dif_none dif-last difs t u l;
+      off = λ t u l _. row 0 off off_none off_last offs t u l;
+      dif = λ t u l _. row 128 dif dif_none dif_last difs t u l;
     }
       where
         row : (area : ℕ) (r : ℕ → ℕ → Element M) → ((u : ℕ) → r 0 u ≡ F.zero) → ((u : ℕ) → Grid M code w area m u ≡ F.zero)

@@ -42,12 +42,12 @@ module _ (M : ScaleModel) (ρ : ℕ → ℕ) where
   -- the code at t is added at ρ t
   pub added_along : (len : ℕ) (f r g : Row) (t place x : ℕ) → AddedAt M len f place x g → place ≡ ρ t → x ≡ r t → place < len → ((p : ℕ) → f p < M.q) → x < M.q
       → ((u : ℕ) → vec M f u ≡ along (scalars M) t ρ (vec M r) u) → (u : ℕ) → vec M g u ≡ along (scalars M) (t + 1) ρ (vec M r) u
-  added_along len f r g t place x A is x-is low coded code before u = go (ℕ_discrete u (ρ t)) ∙ sym (along_more (scalars M) ρ t (vec M r) u)
+  added_along len f r g t place x A is x_is low coded code before u = go (ℕ_discrete u (ρ t)) ∙ sym (along_more (scalars M) ρ t (vec M r) u)
     where
       go : (d : Dec (u ≡ ρ t)) → up M (g u) ≡ (scalars M).plus (along (scalars M) t ρ (vec M r) u) (ite d (up M (r t)) (scalars M).zero)
       go (yes e) =
           ap (λ (p : ℕ). up M (g p)) (e ∙ sym is) ∙ ap (up M) (A.here low code) ∙ up_both (f place) x (coded place) code
-          ∙ ap₂ (scalars M).plus (ap (λ (p : ℕ). up M (f p)) (is ∙ sym e) ∙ before u) (ap (up M) x-is)
+          ∙ ap₂ (scalars M).plus (ap (λ (p : ℕ). up M (f p)) (is ∙ sym e) ∙ before u) (ap (up M) x_is)
       go (no e) = ap (up M) (A.rest u (λ h. e (h ∙ is))) ∙ before u ∙ sym ((scalars M).plus_zero _)
 
 -- no place of a form is past the steady place

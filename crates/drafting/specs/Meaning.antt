@@ -3,7 +3,7 @@ use Rattle.std.specs.Prelude.{◌≡◌, ℕ, ◌+◌, ◌-◌, ◌<◌, Bool, c
 use Rattle.std.proofs.Common.{arith}
 use Rattle.diagram.specs.Diagram.{Assignment, Diagram, Formed, rule, turn}
 use Rattle.diagram.specs.Patches.{Reading, patch_diagram}
-use Rattle.diagram.specs.Patches.{scalars as scalars-of}
+use Rattle.diagram.specs.Patches.{scalars as scalars_of}
 use Rattle.elimination.specs.Lift.{Element, scalars, up, Grid}
 use Rattle.patch.specs.Faults.{position}
 use Rattle.patch.specs.Orders.{listed}
@@ -31,7 +31,7 @@ reading M s = record {
 
 -- the rule of a patch, over the positions of a scan order
 abbrev pub patch_rule : (M : ScaleModel) → ScanOrder → List ℕ → Assignment → Element M
-patch_rule M s bytes = rule (scalars-of (reading M s)) (length (listed s)) (patch_diagram (reading M s) bytes)
+patch_rule M s bytes = rule (scalars_of (reading M s)) (length (listed s)) (patch_diagram (reading M s) bytes)
 
 -- the draft means a diagram over n positions that is well formed and has the rule f
 pub record Drafts (M : ScaleModel) {S : Type 0} (code : S → Row) (work : List S) (d : Draft S) (n : ℕ) (f : Assignment → Element M) : Type 0 where

@@ -6,7 +6,7 @@ ghost use Rattle.drafting.specs.Meaning.{Drafts, patch_rule};
 ghost use Rattle.elimination.specs.Rows.{Rows};
 ghost use Rattle.patch.specs.Judging.{meant};
 ghost use Rattle.patch.specs.Orders.{listed};
-ghost use Rattle.patch.specs.Paths.{code as byte_code};
+ghost use Rattle.patch.specs.Paths.{code as code_of_record};
 ghost use Rattle.patch.specs.Records.{records, declared, cells_of};
 ghost use Rattle.patch.specs.Windows.{seen};
 ghost use Rattle.settling.specs.Draft.{Ordered, Bounded, Beyond};
@@ -53,7 +53,7 @@ fn cell_place(plan: &Plan, cell: u8) -> usize
 fn add_record<S: Strip>(work: &mut [S], plan: &Plan, entry: Record, out: &mut S)
     requires room { 512 ≤ length work.old }
     requires within { plan.now.cells < S.len }
-    requires coded { byte_code (meant entry) < S.Codes.Scale.model.q }
+    requires coded { code_of_record (meant entry) < S.Codes.Scale.model.q }
     requires bounded { Bounded S.code work.old plan.now.cells }
     requires outlet { Ends plan.now.cells (S.code out.old) }
     ensures bounded { Bounded S.code work.new plan.now.cells }
