@@ -2,8 +2,10 @@
 ghost use Rattle.scale.specs.Accents.{accents};
 
 use super::Scale;
+use super::codes::{entry, own};
 
-pub struct Accents {}
+#[derive(Clone, Copy)]
+pub struct Accents;
 
 // the inverse of a stands at a
 #[rattlefmt::skip]
@@ -42,10 +44,10 @@ impl Scale for Accents {
     }
 
     fn inverse(a: u8) -> u8 {
-        if a < 127 { INVERSES[a as usize] } else { 0 }
+        entry(&INVERSES, a)
     }
 
     fn velocity(a: u8) -> u8 {
-        if a < 127 { a } else { 0 }
+        own::<127>(a)
     }
 }

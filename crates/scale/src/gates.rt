@@ -2,8 +2,10 @@
 ghost use Rattle.scale.specs.Gates.{gates};
 
 use super::Scale;
+use super::codes::{own, xor};
 
-pub struct Gates {}
+#[derive(Clone, Copy)]
+pub struct Gates;
 
 impl Scale for Gates {
     ghost model = { gates };
@@ -13,7 +15,7 @@ impl Scale for Gates {
     }
 
     fn sum(a: u8, b: u8) -> u8 {
-        if a < 2 && b < 2 { a ^ b } else { 0 }
+        xor::<2>(a, b)
     }
 
     fn product(a: u8, b: u8) -> u8 {
@@ -21,11 +23,11 @@ impl Scale for Gates {
     }
 
     fn negative(a: u8) -> u8 {
-        if a < 2 { a } else { 0 }
+        own::<2>(a)
     }
 
     fn inverse(a: u8) -> u8 {
-        if a < 2 { a } else { 0 }
+        own::<2>(a)
     }
 
     fn velocity(a: u8) -> u8 {

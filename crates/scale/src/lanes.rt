@@ -2,8 +2,10 @@
 ghost use Rattle.scale.specs.Lanes.{lanes};
 
 use super::Scale;
+use super::codes::{entry, own, xor};
 
-pub struct Lanes {}
+#[derive(Clone, Copy)]
+pub struct Lanes;
 
 // the product of a and b stands at 16 * a + b
 #[rattlefmt::skip]
@@ -36,7 +38,7 @@ impl Scale for Lanes {
     }
 
     fn sum(a: u8, b: u8) -> u8 {
-        if a < 16 && b < 16 { a ^ b } else { 0 }
+        xor::<16>(a, b)
     }
 
     fn product(a: u8, b: u8) -> u8 {
@@ -48,11 +50,11 @@ impl Scale for Lanes {
     }
 
     fn negative(a: u8) -> u8 {
-        if a < 16 { a } else { 0 }
+        own::<16>(a)
     }
 
     fn inverse(a: u8) -> u8 {
-        if a < 16 { INVERSES[a as usize] } else { 0 }
+        entry(&INVERSES, a)
     }
 
     fn velocity(a: u8) -> u8 {

@@ -6,6 +6,7 @@ ghost use Rattle.std.specs.Prelude.{◌≡◌, ℕ};
 ghost use Rattle.scale.specs.Model.{ScaleModel, at_code, at_codes};
 
 pub mod accents;
+mod codes;
 pub mod gates;
 pub mod lanes;
 

@@ -1,1 +1,2 @@
 mod ByteRows
+mod Made

@@ -1,75 +1,93 @@
-// A byte to a place: what the strips that store bytes have in common, at any scale.
-ghost use Rattle.std.specs.Prelude.{◌≡◌, T};
+// A byte to a place, at any scale.
+ghost use Rattle.std.specs.Prelude.{◌≡◌};
 ghost use Rattle.strip.specs.Bytes.{byte_code, byte_row};
-ghost use Rattle.strip.specs.Row.{First, Put, Added};
+ghost use Rattle.std.proofs.Common.{rules};
 
+use super::Strip;
 use scale::Scale;
+use std::array;
+use std::marker::PhantomData;
+
+// A strip in 128 bytes: place p is byte p.
+#[derive_where(Clone, Copy)]
+pub struct ByteStrip<C: Scale> {
+    codes: [u8; 128],
+    scale: PhantomData<C>,
+}
+
+impl<C: Scale> ByteStrip<C> {
+    // The strip that these bytes are; a byte that is no code counts as 0.
+    pub fn from_bytes(codes: [u8; 128]) -> Self
+        ensures { result.codes ≡ codes }
+    {
+        ByteStrip {
+            codes,
+            scale: PhantomData,
+        }
+    }
+}
 
 // The code that a stored byte means: 0 if it is none.
 fn code_of<C: Scale>(b: u8) -> u8
-    ensures { result ≡ byte_code C.Scale.model.q b }
+    ensures { result ≡ byte_code C.model.q b }
 {
     if b < C::codes() { b } else { 0 }
 }
 
-// The code at a place, 0 from place 128 on.
-pub(crate) fn ask_byte<C: Scale>(bytes: &[u8; 128], place: usize) -> u8
-    ensures { result ≡ byte_row C.Scale.model.q bytes.now place }
-{
-    if place < 128 {
-        code_of::<C>(bytes[place])
-    } else {
-        0
-    }
-}
+impl<C: Scale> Strip for ByteStrip<C> {
+    type Codes = C;
 
-// The bytes with c put at a place: as they are if there is no such place or c is no code.
-pub(crate) fn put_byte<C: Scale>(bytes: [u8; 128], place: usize, c: u8) -> [u8; 128]
-    ensures { Put 128 C.Scale.model.q (byte_row C.Scale.model.q bytes) place c (byte_row C.Scale.model.q result) }
-{
-    let mut changed = bytes;
-    if place < 128 && c < C::codes() {
-        changed[place] = c;
-    }
-    changed
-}
+    ghost len = { 128 };
 
-// The bytes s with c times t added: s itself if c is no code, and if it is 0, which adds nothing.
-pub(crate) fn add_bytes<C: Scale>(s: [u8; 128], c: u8, t: &[u8; 128]) -> [u8; 128]
-    ensures { Added C.Scale.model (byte_row C.Scale.model.q s) c (byte_row C.Scale.model.q t.now) (byte_row C.Scale.model.q result) }
-{
-    let mut sums = s;
-    let q = C::codes();
-    if c == 0 || c >= q {
-        return sums;
-    }
-    for p in 0..128 {
-        sums[p] = C::sum(code_of::<C>(sums[p]), C::product(c, code_of::<C>(t[p])));
-    }
-    sums
-}
+    ghost code = { λ s. byte_row C.model.q s.codes };
 
-// The lowest place whose code is not 0, or 128.
-pub(crate) fn first_byte<C: Scale>(bytes: &[u8; 128]) -> usize
-    ensures { First 128 (byte_row C.Scale.model.q bytes.now) result }
-{
-    for p in 0..128 {
-        if ask_byte::<C>(bytes, p) != 0 {
-            return p;
+    ghost long = { Prim.search rules };
+
+    ghost short = { Prim.search rules };
+
+    ghost coded = { Prim.search rules };
+
+    ghost ends = { Prim.search rules };
+
+    fn length() -> usize {
+        128
+    }
+
+    fn blank() -> Self {
+        Self::from_bytes([0; 128])
+    }
+
+    fn ask(&self, place: usize) -> u8 {
+        self.codes.get(place).map_or(0, |b| code_of::<C>(*b))
+    }
+
+    fn put(&mut self, place: usize, c: u8) {
+        if place < 128 && c < C::codes() {
+            let mut codes = self.codes;
+            codes[place] = c;
+            *self = Self::from_bytes(codes);
         }
     }
-    128
-}
 
-// Whether the codes at all places are equal, whatever bytes they are stored as.
-pub(crate) fn equal_bytes<C: Scale>(s: &[u8; 128], t: &[u8; 128]) -> bool
-    ensures same { T result → byte_row C.Scale.model.q s.now ≡ byte_row C.Scale.model.q t.now }
-    ensures all { byte_row C.Scale.model.q s.now ≡ byte_row C.Scale.model.q t.now → T result }
-{
-    for p in 0..128 {
-        if ask_byte::<C>(s, p) != ask_byte::<C>(t, p) {
-            return false;
+    fn add(&mut self, c: u8, t: &Self) {
+        if c > 0 && c < C::codes() {
+            *self = Self::from_bytes(array::from_fn(|p| {
+                C::sum(self.ask(p), C::product(c, t.ask(p)))
+            }));
         }
     }
-    true
+
+    fn first(&self) -> usize {
+        self.codes
+            .iter()
+            .position(|b| code_of::<C>(*b) != 0)
+            .unwrap_or(128)
+    }
+
+    fn equal(&self, other: &Self) -> bool {
+        self.codes
+            .iter()
+            .zip(&other.codes)
+            .all(|(a, b)| code_of::<C>(*a) == code_of::<C>(*b))
+    }
 }

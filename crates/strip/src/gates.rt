@@ -77,6 +77,7 @@ impl Strip for GateStrip {
     }
 
     fn equal(&self, other: &Self) -> bool {
+        // kept: `self.words == other.words` was tried: of words that are compared as a whole, not one by one, the check isn't told that they are below 2^64
         self.words[0] == other.words[0] && self.words[1] == other.words[1]
     }
 }

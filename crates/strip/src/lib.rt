@@ -8,7 +8,7 @@ ghost use Rattle.strip.specs.Row.{Row, zeros, First, Put, Added};
 use scale::Scale;
 
 pub mod accents;
-mod bytes;
+pub mod bytes;
 pub mod gates;
 pub mod lanes;
 
@@ -42,6 +42,7 @@ pub trait Strip: Copy + Sized {
         ensures { Added Self.Codes.Scale.model (code self.old) c (code t.now) (code self.new) };
 
     // The lowest place whose code is not 0, or L.
+    // kept: an Option would be no plainer: callers compare the place with the size of a table, and L is past each of them
     fn first(&self) -> usize
         ensures { First len (code self.now) result };
 

@@ -1,5 +1,0 @@
-use Rattle.strip.proofs.ByteRows.{blank_row}
-use Rattle.strip.proofs.lanes.LaneStripStrip.blank.Goals as goal
-
-pub returns : goal.returns
-returns c = blank_row 16
