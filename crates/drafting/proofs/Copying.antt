@@ -1,12 +1,12 @@
 -- The rows of a form's cells, put at their places one after the other.
-use Rattle.std.proofs.Common.{◌≡◌, ℕ, ◌+◌, ◌<◌, ◌≤◌, List, sym, refl, ap, ◌∙◌, subst, inl, inr, arith}
+use Rattle.std.proofs.Common.{◌≡◌, ℕ, ◌+◌, ◌-◌, ◌<◌, ◌≤◌, Bool, true, false, true≢false, ◌≢◌, Option, None, Some, List, length, get_or, sym, refl, ap, ◌∙◌, subst, inl, inr, arith}
 use Rattle.std.proofs.lemmas.Bool.{cases_eq}
 use Rattle.elimination.specs.Rows.{Rows, RowSet, Outside}
 use Rattle.scale.specs.Model.{ScaleModel}
 use Rattle.strip.specs.Row.{Row}
 use Rattle.drafting.specs.declared.form.FormView.{FormView}
 use Rattle.drafting.specs.declared.plan.Plan.{Plan}
-use Rattle.drafting.specs.Forms.{place_of, Moved, Copied}
+use Rattle.drafting.specs.Forms.{place_of, Moved, Copied, Free, Held}
 
 module _ {S : Type 0} (code : S → Row) where
   pub outside_same : (w : List S) (area size : ℕ) → Outside code w area size w
@@ -23,17 +23,17 @@ module _ (M : ScaleModel) {S : Type 0} (code : S → Row) (len : ℕ) (plan : Pl
   pub none_copied : Copied M code len plan from form area chosen 1 w w
   none_copied = record { rows = λ _ _ i a b. absurd (omega arith); rest = λ _ _ _. refl }
 
-  module _ (w₁ w₂ : List S) (last : ℕ) (C : Copied M code len plan from form area chosen last w w₁) (some : 0 < last) (few : last ≤ form.count) where
+  module _ (w₁ w₂ : List S) (last : ℕ) (C : Copied M code len plan from form area chosen last w w₁) (some : 0 < last) (few : last ≤ length form.inputs.now) where
     -- the row of a chosen cell is put at its place
     pub one_copied : (h : ℕ) (f r : Row) → RowSet (Rows code w₁ area) h f (Rows code w₂ area) → h ≡ place_of plan from last → chosen last
-        → Rows code form.strips.now form.base last ≡ r → (plan.cells < len → Moved M form.count (place_of plan from) r f)
+        → Rows code form.strips.now 0 last ≡ r → (plan.cells < len → Moved M (length form.inputs.now) (place_of plan from) r f)
         → Copied M code len plan from form area chosen (last + 1) w w₂
     one_copied h f r set is ch row_is moved = record {
       rows = λ low apart i a b d. elim (cases_eq i last) [
-        | inl e ↦ subst (λ (j : ℕ). Moved M form.count (place_of plan from) (Rows code form.strips.now form.base j) (Rows code w₂ area (place_of plan from j))) (sym e) (
-            subst (λ (x : Row). Moved M form.count (place_of plan from) (Rows code form.strips.now form.base last) x) (sym set.here ∙ ap (Rows code w₂ area) is) (
-            subst (λ (x : Row). Moved M form.count (place_of plan from) x f) (sym row_is) (moved low)))
-        | inr e ↦ subst (λ (r : Row). Moved M form.count (place_of plan from) (Rows code form.strips.now form.base i) r) (
+        | inl e ↦ subst (λ (j : ℕ). Moved M (length form.inputs.now) (place_of plan from) (Rows code form.strips.now 0 j) (Rows code w₂ area (place_of plan from j))) (sym e) (
+            subst (λ (x : Row). Moved M (length form.inputs.now) (place_of plan from) (Rows code form.strips.now 0 last) x) (sym set.here ∙ ap (Rows code w₂ area) is) (
+            subst (λ (x : Row). Moved M (length form.inputs.now) (place_of plan from) x f) (sym row_is) (moved low)))
+        | inr e ↦ subst (λ (r : Row). Moved M (length form.inputs.now) (place_of plan from) (Rows code form.strips.now 0 i) r) (
             sym (set.rest (place_of plan from i) (λ z. e (apart i last a (omega arith) some few (z ∙ is))))) (C.rows low apart i a (omega arith) d)
       ];
       rest = λ k b others. set.rest k (λ z. others last some (omega arith) ch (z ∙ is)) ∙ C.rest k b (λ i a l d. others i a (omega arith) d);
@@ -45,8 +45,38 @@ module _ (M : ScaleModel) {S : Type 0} (code : S → Row) (len : ℕ) (plan : Pl
     none_more not kept low = record {
       rows = λ fits apart i a b d. elim (cases_eq i last) [
         | inl e ↦ absurd (not (subst chosen e d))
-        | inr e ↦ subst (λ (r : Row). Moved M form.count (place_of plan from) (Rows code form.strips.now form.base i) r) (sym (kept (place_of plan from i) (low i))) (
+        | inr e ↦ subst (λ (r : Row). Moved M (length form.inputs.now) (place_of plan from) (Rows code form.strips.now 0 i) r) (sym (kept (place_of plan from i) (low i))) (
             C.rows fits apart i a (omega arith) d)
       ];
       rest = λ k b others. kept k b ∙ C.rest k b (λ i a l d. others i a (omega arith) d);
     }
+
+-- whether the row of cell j + 1, which reads an input, is one that stands at once, or one that stands for good
+module _ {S : Type 0} (form : FormView S) (j : ℕ) where
+  reads : get_or form.inputs.now (j + 1 - 1) 0 ≡ get_or form.inputs.now j 0
+  reads = ap (λ (i : ℕ). get_or form.inputs.now i 0) (omega arith)
+
+  -- no input is tied
+  pub free_none : (tied : Option (ℕ × Bool)) → ((x : ℕ × Bool) → tied ≡ Some x → ⊥) → Free form tied (j + 1)
+  free_none None none = tt
+  free_none (Some x) none = absurd (none x refl)
+
+  pub held_none : (tied : Option (ℕ × Bool)) → ((x : ℕ × Bool) → tied ≡ Some x → ⊥) → Held form tied (j + 1) → ⊥
+  held_none None none h = h
+  held_none (Some x) none h = none x refl
+
+  module _ (tied : Option (ℕ × Bool)) (input : ℕ) (on : Bool) (is : tied ≡ Some (input, on)) where
+    pub free : get_or form.inputs.now j 0 ≢ input → Free form tied (j + 1)
+    free ne = subst (λ (t : Option (ℕ × Bool)). Free form t (j + 1)) (sym is) (λ e. ne (sym reads ∙ e))
+
+    pub not_free : get_or form.inputs.now j 0 ≡ input → Free form tied (j + 1) → ⊥
+    not_free e h = subst (λ (t : Option (ℕ × Bool)). Free form t (j + 1)) is h (reads ∙ e)
+
+    pub held : get_or form.inputs.now j 0 ≡ input → on ≡ true → Held form tied (j + 1)
+    held e t = subst (λ (t : Option (ℕ × Bool)). Held form t (j + 1)) (sym is) (reads ∙ e, t)
+
+    pub other_not_held : get_or form.inputs.now j 0 ≢ input → Held form tied (j + 1) → ⊥
+    other_not_held ne h = let k = subst (λ (t : Option (ℕ × Bool)). Held form t (j + 1)) is h in ne (sym reads ∙ k.0)
+
+    pub off_not_held : on ≡ false → Held form tied (j + 1) → ⊥
+    off_not_held f h = let k = subst (λ (t : Option (ℕ × Bool)). Held form t (j + 1)) is h in true≢false (sym k.1 ∙ f)

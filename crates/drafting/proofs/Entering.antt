@@ -14,7 +14,7 @@ use Rattle.elimination.specs.Rows.{Rows, Outside}
 use Rattle.elimination.proofs.Grids.{rows_coded}
 use Rattle.elimination.proofs.Lifting.{up_plus}
 use Rattle.patch.specs.Paths.{code as code_of_record}
-use Rattle.patch.specs.Records.{Record, filler, cell, off, on, outlet}
+use Rattle.patch.specs.Records.{Record, off, on, outlet}
 use Rattle.drafting.specs.Arcs.{only, Entered}
 use Rattle.drafting.specs.Drafts.{AddedAt, AddedIn}
 
@@ -73,22 +73,6 @@ module _ (M : ScaleModel) where
   module _ {S : Type 0} (code : S → Row) (law : (s : S) (p : ℕ) → code s p < M.q) (len : ℕ) (ρ : ℕ → ℕ) where
     all_coded : (w : List S) (base j p : ℕ) → Rows code w base j p < M.q
     all_coded w base j p = rows_coded code M.q (some_code M) law w base j p
-
-    pub enter_filler : (w : List S) (o : Row) → Entered M code ρ filler w o w o
-    enter_filler w o = record {
-      off = λ h u l. still _ _ _ _ refl;
-      dif = λ h u l. still _ _ _ _ no_dif;
-      out = λ u. still _ _ _ _ refl;
-      beyond = λ b k l. refl;
-    }
-
-    pub enter_cell : (i : ℕ) (w : List S) (o : Row) → Entered M code ρ (cell i) w o w o
-    enter_cell i w o = record {
-      off = λ h u l. still _ _ _ _ refl;
-      dif = λ h u l. still _ _ _ _ no_dif;
-      out = λ u. still _ _ _ _ refl;
-      beyond = λ b k l. refl;
-    }
 
     pub enter_outlet : (t c : ℕ) (w : List S) (o o' : Row) → AddedAt M len o (ρ t) c o' → ρ t < len → c < M.q → ((p : ℕ) → o p < M.q) → Entered M code ρ (outlet t c) w o w o'
     enter_outlet t c w o o' a l k below = record {

@@ -1,5 +1,5 @@
 -- Where a form stands in a draft, and the draft of two forms.
-use Rattle.std.proofs.Common.{◌≡◌, ℕ, ◌+◌, ◌-◌, ◌<◌, ◌≤◌, ◌≢◌, ◌⊎◌, List, length, get_or, sym, refl, ap, ◌∙◌, subst, inl, inr, arith}
+use Rattle.std.proofs.Common.{◌≡◌, ℕ, ◌+◌, ◌-◌, ◌<◌, ◌≤◌, ◌≢◌, ◌⊎◌, None, List, length, get_or, sym, refl, ap, ◌∙◌, subst, inl, inr, arith}
 use native.Mathlib.Decide.{dec_lt}
 use Rattle.std.proofs.lemmas.Bool.{cases_eq, cond-false, ne_eqb}
 use Rattle.linear.specs.Field.{Field}
@@ -8,7 +8,7 @@ use Rattle.diagram.specs.Diagram.{Assignment, Diagram, Formed, rule}
 use Rattle.diagram.specs.Passes.{rowed, along, Embeds}
 use Rattle.diagram.proofs.Tying.{laid_formed, laid}
 use Rattle.elimination.specs.Lift.{Element, scalars, up, vec, Grid}
-use Rattle.elimination.specs.Rows.{Rows, Outside}
+use Rattle.elimination.specs.Rows.{Rows}
 use Rattle.elimination.proofs.Grids.{rows_at}
 use Rattle.elimination.proofs.Lifting.{up_is_zero}
 use Rattle.elimination.proofs.Sums.{at}
@@ -21,10 +21,10 @@ use Rattle.settling.specs.declared.draft.Draft.{Draft}
 use Rattle.strip.specs.Row.{Row, zeros}
 use Rattle.drafting.specs.declared.form.FormView.{FormView}
 use Rattle.drafting.specs.declared.plan.Plan.{Plan}
-use Rattle.drafting.specs.Forms.{place_of, Apart, Moved, Copied, Every}
+use Rattle.drafting.specs.Forms.{place_of, Apart, Moved, Copied, Free, Held}
 use Rattle.drafting.specs.Meaning.{Drafts, form_of}
 use Rattle.drafting.specs.Plan.{Placed}
-use Rattle.drafting.proofs.Moving.{along_blank, along_same, place_low}
+use Rattle.drafting.proofs.Moving.{size, along_blank, along_same, place_low}
 
 module _ (M : ScaleModel) {S : Type 0} (code : S → Row) (s : ScanOrder) (ps : List ℕ) (k : ℕ) (plan : Plan) (d : Placed ps k (length (listed s)) plan.cells plan.pos plan.place) where
   abbrev F : Field (Element M)
@@ -53,17 +53,14 @@ module _ (M : ScaleModel) {S : Type 0} (code : S → Row) (s : ScanOrder) (ps : 
   }
 
   -- a form's outlet, moved
-  pub moved_outlet : (form : FormView S) (from : ℕ) (x v : S) → form.base < length form.strips.now
-      → Moved M form.count (place_of plan from) (code (get_or form.strips.now form.base x)) (code v)
-      → (u : ℕ) → vec M (code v) u ≡ along F (form.count + 1) (place_of plan from) (Grid M code form.strips.now form.base 0) u
-  moved_outlet form from x v room moved u =
-      let e : form.base + 0 ≡ form.base = omega arith in
-      let h : Rows code form.strips.now form.base 0 ≡ code (get_or form.strips.now form.base x) =
-      rows_at code form.strips.now form.base 0 x (omega arith) ∙ ap (λ (i : ℕ). code (get_or form.strips.now i x)) e in
-      moved u ∙ ap (λ (r : Row). along F (form.count + 1) (place_of plan from) (vec M r) u) (sym h)
+  pub moved_outlet : (form : FormView S) (from : ℕ) (x v : S) → Moved M (size form) (place_of plan from) (code (get_or form.strips.now 0 x)) (code v)
+      → (u : ℕ) → vec M (code v) u ≡ along F (size form + 1) (place_of plan from) (Grid M code form.strips.now 0 0) u
+  moved_outlet form from x v moved u =
+      let h : Rows code form.strips.now 0 0 ≡ code (get_or form.strips.now 0 x) = rows_at code form.strips.now 0 0 x (omega (arith, form.wide)) in
+      moved u ∙ ap (λ (r : Row). along F (size form + 1) (place_of plan from) (vec M r) u) (sym h)
 
   -- The form's cells are those of the plan from `from` on.
-  module _ (form : FormView S) (from : ℕ) (fits : from + form.count ≤ k) (listed_at : (j : ℕ) → j < form.count → get_or ps (from + j) 0 ≡ position (listed s) (get_or form.inputs.now j 0))
+  module _ (form : FormView S) (from : ℕ) (fits : from + size form ≤ k) (listed_at : (j : ℕ) → j < size form → get_or ps (from + j) 0 ≡ position (listed s) (get_or form.inputs.now j 0))
       (fP : Formed F n (form_of M code s form)) where
     abbrev P : Diagram (Element M)
     P = form_of M code s form
@@ -77,7 +74,7 @@ module _ (M : ScaleModel) {S : Type 0} (code : S → Row) (s : ScanOrder) (ps : 
       | inr ne ↦ absurd (let h : n < n = fP.others 0 (omega arith) (λ e. ne (sym e)) in omega arith)
     ]
 
-    cell_pos : (t : ℕ) → 0 < t → t ≤ form.count → P.pos t ≡ get_or ps (from + t - 1) 0
+    cell_pos : (t : ℕ) → 0 < t → t ≤ size form → P.pos t ≡ get_or ps (from + t - 1) 0
     cell_pos t a b =
         let e : from + (t - 1) ≡ from + t - 1 = omega arith in
         cond-false _ _ _ (ne_eqb t 0 (λ z. omega arith)) ∙ sym (listed_at (t - 1) (omega arith)) ∙ ap (λ (i : ℕ). get_or ps i 0) e
@@ -85,32 +82,32 @@ module _ (M : ScaleModel) {S : Type 0} (code : S → Row) (s : ScanOrder) (ps : 
     cell_place : (t : ℕ) → 0 < t → ρ t ≡ get_or plan.place (from + t - 1) 0
     cell_place t a = cond-false _ _ _ (ne_eqb t 0 (λ z. omega arith))
 
-    pub cell_low : (t : ℕ) → 0 < t → t ≤ form.count → P.pos t < n
+    pub cell_low : (t : ℕ) → 0 < t → t ≤ size form → P.pos t < n
     cell_low t a b = fP.others t (omega arith) (λ e. omega (arith, steady_first))
 
-    low : (t : ℕ) → 0 < t → t ≤ form.count → get_or ps (from + t - 1) 0 < n
+    low : (t : ℕ) → 0 < t → t ≤ size form → get_or ps (from + t - 1) 0 < n
     low t a b = rw (← (cell_pos t a b)) (cell_low t a b)
 
-    pub below : (t : ℕ) → 0 < t → t ≤ form.count → ρ t < m
+    pub below : (t : ℕ) → 0 < t → t ≤ size form → ρ t < m
     below t a b = rw (cell_place t a) (d.inside (from + t - 1) (omega arith) (low t a b))
 
-    pub apart : Apart form.count ρ
+    pub apart : Apart (size form) ρ
     apart i j a b a' b' e =
         let h : from + i - 1 ≡ from + j - 1 = d.apart (from + i - 1) (from + j - 1) (omega arith) (omega arith) (low i a b) (low j a' b') (sym (cell_place i a) ∙ e ∙ cell_place j a') in
         omega arith
 
-    place_pos : (t : ℕ) → t < form.count + 1 → get_or plan.pos (ρ t) 0 ≡ P.pos t
+    place_pos : (t : ℕ) → t < size form + 1 → get_or plan.pos (ρ t) 0 ≡ P.pos t
     place_pos t l = elim (cases_eq t 0) [
       | inl e ↦ subst (λ (i : ℕ). get_or plan.pos (ρ i) 0 ≡ P.pos i) (sym e) d.steady
-      | inr e ↦ let a : 0 < t = omega arith in let b : t ≤ form.count = omega arith in
+      | inr e ↦ let a : 0 < t = omega arith in let b : t ≤ size form = omega arith in
           ap (λ (i : ℕ). get_or plan.pos i 0) (cell_place t a) ∙ d.at (from + t - 1) (omega arith) (low t a b) ∙ sym (cell_pos t a b)
     ]
 
     -- The places of a diagram with the form's positions, whose rows stand in the draft.
     pub embeds : (w : List S) (out : S) (off dif : ℕ → ℕ → Element M) (o : ℕ → Element M) → ((u : ℕ) → off 0 u ≡ F.zero) → ((u : ℕ) → dif 0 u ≡ F.zero)
         → ((u : ℕ) → Grid M code w 0 m u ≡ F.zero) → ((u : ℕ) → Grid M code w 128 m u ≡ F.zero)
-        → ((t : ℕ) → 0 < t → t ≤ form.count → (u : ℕ) → Grid M code w 0 (ρ t) u ≡ along F (form.count + 1) ρ (off t) u)
-        → ((t : ℕ) → 0 < t → t ≤ form.count → (u : ℕ) → Grid M code w 128 (ρ t) u ≡ along F (form.count + 1) ρ (dif t) u)
+        → ((t : ℕ) → 0 < t → t ≤ size form → (u : ℕ) → Grid M code w 0 (ρ t) u ≡ along F (size form + 1) ρ (off t) u)
+        → ((t : ℕ) → 0 < t → t ≤ size form → (u : ℕ) → Grid M code w 128 (ρ t) u ≡ along F (size form + 1) ρ (dif t) u)
         → Embeds F (rowed P off dif o) (diagram_in w out) ρ
     embeds w out off dif o off_none dif_none off_last dif_last offs difs = record {
       inside = λ t l. let h = place_low plan from t in omega arith;
@@ -120,67 +117,67 @@ module _ (M : ScaleModel) {S : Type 0} (code : S → Row) (s : ScanOrder) (ps : 
     }
       where
         row : (area : ℕ) (r : ℕ → ℕ → Element M) → ((u : ℕ) → r 0 u ≡ F.zero) → ((u : ℕ) → Grid M code w area m u ≡ F.zero)
-            → ((t : ℕ) → 0 < t → t ≤ form.count → (u : ℕ) → Grid M code w area (ρ t) u ≡ along F (form.count + 1) ρ (r t) u) → (t u : ℕ) → t < form.count + 1
-            → Grid M code w area (ρ t) u ≡ along F (form.count + 1) ρ (r t) u
+            → ((t : ℕ) → 0 < t → t ≤ size form → (u : ℕ) → Grid M code w area (ρ t) u ≡ along F (size form + 1) ρ (r t) u) → (t u : ℕ) → t < size form + 1
+            → Grid M code w area (ρ t) u ≡ along F (size form + 1) ρ (r t) u
         row area r none last rows t u l = elim (cases_eq t 0) [
-          | inl e ↦ subst (λ (i : ℕ). Grid M code w area (ρ i) u ≡ along F (form.count + 1) ρ (r i) u) (sym e) (last u ∙ sym (along_blank F ρ (form.count + 1) (r 0) (λ v _. none v) u))
+          | inl e ↦ subst (λ (i : ℕ). Grid M code w area (ρ i) u ≡ along F (size form + 1) ρ (r i) u) (sym e) (last u ∙ sym (along_blank F ρ (size form + 1) (r 0) (λ v _. none v) u))
           | inr e ↦ rows t (omega arith) (omega arith) u
         ]
 
     -- the rows of the form's own cells
-    pub row_is : (t : ℕ) → 0 < t → (v : ℕ) → P.dif t v ≡ Grid M code form.strips.now form.base t v
+    pub row_is : (t : ℕ) → 0 < t → (v : ℕ) → P.dif t v ≡ Grid M code form.strips.now 0 t v
     row_is t a v = cond-false _ _ _ (ne_eqb t 0 (λ z. omega arith))
 
     -- a cell of the plan is one of the form's, if it is among them
-    pub stands : (i t : ℕ) → from ≤ i → i < from + form.count → get_or plan.place i 0 ≡ t → Stands P ρ t
+    pub stands : (i t : ℕ) → from ≤ i → i < from + size form → get_or plan.place i 0 ≡ t → Stands P ρ t
     stands i t a b e =
         let h : from + (i - from + 1) - 1 ≡ i = omega arith in
         (i - from + 1, omega arith, cell_place (i - from + 1) (omega arith) ∙ ap (λ (j : ℕ). get_or plan.place j 0) h ∙ e)
 
   -- Two forms, one after the other: the rows are blank, then those of the first form are copied, then those of the second.
-  module _ (len : ℕ) (a b : FormView S) (all : k ≡ a.count + b.count) (short : plan.cells < len)
-      (at_a : (j : ℕ) → j < a.count → get_or ps (0 + j) 0 ≡ position (listed s) (get_or a.inputs.now j 0))
-      (at_b : (j : ℕ) → j < b.count → get_or ps (a.count + j) 0 ≡ position (listed s) (get_or b.inputs.now j 0))
+  module _ (len : ℕ) (a b : FormView S) (all : k ≡ size a + size b) (short : plan.cells < len)
+      (at_a : (j : ℕ) → j < size a → get_or ps (0 + j) 0 ≡ position (listed s) (get_or a.inputs.now j 0))
+      (at_b : (j : ℕ) → j < size b → get_or ps (size a + j) 0 ≡ position (listed s) (get_or b.inputs.now j 0))
       (w₁ w₂ w₃ : List S) (blank_off : (h : ℕ) → h ≤ plan.cells → Rows code w₁ 0 h ≡ zeros) (blank_dif : (h : ℕ) → h ≤ plan.cells → Rows code w₁ 128 h ≡ zeros)
-      (copied_a : Copied M code len plan 0 a 128 Every (a.count + 1) w₁ w₂) (outside_a : Outside code w₁ 128 128 w₂)
-      (copied_b : Copied M code len plan a.count b 128 Every (b.count + 1) w₂ w₃) (outside_b : Outside code w₂ 128 128 w₃)
+      (copied_a : Copied M code len plan 0 a 128 (Free a None) (size a + 1) w₁ w₂) (kept_a : Copied M code len plan 0 a 0 (Held a None) (size a + 1) w₁ w₂)
+      (copied_b : Copied M code len plan (size a) b 128 (Free b None) (size b + 1) w₂ w₃) (kept_b : Copied M code len plan (size a) b 0 (Held b None) (size b + 1) w₂ w₃)
       (fP : Formed F n (form_of M code s a)) (fQ : Formed F n (form_of M code s b)) where
-    fits_a : 0 + a.count ≤ k
+    fits_a : 0 + size a ≤ k
     fits_a = omega arith
 
-    fits_b : a.count + b.count ≤ k
+    fits_b : size a + size b ≤ k
     fits_b = omega arith
 
     few : plan.cells < 128
     few = let h = plan.few in omega arith
 
     -- no cell of one stands where a cell of the other does
-    other : (i j : ℕ) → 0 < i → i ≤ a.count → 0 < j → j ≤ b.count → place_of plan 0 i ≢ place_of plan a.count j
+    other : (i j : ℕ) → 0 < i → i ≤ size a → 0 < j → j ≤ size b → place_of plan 0 i ≢ place_of plan (size a) j
     other i j l h l' h' e =
-        let z : 0 + i - 1 ≡ a.count + j - 1 =
-        d.apart (0 + i - 1) (a.count + j - 1) (omega arith) (omega arith) (low a 0 fits_a at_a fP i l h) (low b a.count fits_b at_b fQ j l' h')
-        (sym (cell_place a 0 fits_a at_a fP i l) ∙ e ∙ cell_place b a.count fits_b at_b fQ j l') in
+        let z : 0 + i - 1 ≡ size a + j - 1 =
+        d.apart (0 + i - 1) (size a + j - 1) (omega arith) (omega arith) (low a 0 fits_a at_a fP i l h) (low b (size a) fits_b at_b fQ j l' h')
+        (sym (cell_place a 0 fits_a at_a fP i l) ∙ e ∙ cell_place b (size a) fits_b at_b fQ j l') in
         omega arith
 
     off_blank : (h : ℕ) → h ≤ plan.cells → (u : ℕ) → Grid M code w₃ 0 h u ≡ F.zero
-    off_blank h l u = up_is_zero M (at (outside_b.before 0 h (omega arith) ∙ outside_a.before 0 h (omega arith) ∙ blank_off h l) u)
+    off_blank h l u = up_is_zero M (at (kept_b.rest h (omega arith) (λ i _ _ none. absurd none) ∙ kept_a.rest h (omega arith) (λ i _ _ none. absurd none) ∙ blank_off h l) u)
 
     last_blank : (u : ℕ) → Grid M code w₃ 128 plan.cells u ≡ F.zero
     last_blank u =
         up_is_zero M (
-        at (copied_b.rest plan.cells few (λ i l h _ e. (let z = below b a.count fits_b at_b fQ i l (omega arith) in omega arith))
+        at (copied_b.rest plan.cells few (λ i l h _ e. (let z = below b (size a) fits_b at_b fQ i l (omega arith) in omega arith))
         ∙ copied_a.rest plan.cells few (λ i l h _ e. (let z = below a 0 fits_a at_a fP i l (omega arith) in omega arith)) ∙ blank_dif plan.cells (omega arith)) u)
 
-    dif_a : (t : ℕ) → 0 < t → t ≤ a.count → (u : ℕ) → Grid M code w₃ 128 (place_of plan 0 t) u ≡ along F (a.count + 1) (place_of plan 0) ((form_of M code s a).dif t) u
+    dif_a : (t : ℕ) → 0 < t → t ≤ size a → (u : ℕ) → Grid M code w₃ 128 (place_of plan 0 t) u ≡ along F (size a + 1) (place_of plan 0) ((form_of M code s a).dif t) u
     dif_a t l h u =
         ap (up M) (at (copied_b.rest (place_of plan 0 t) (let z = place_low plan 0 t in omega arith) (λ i l' h' _ e. other t i l h l' (omega arith) e)) u)
         ∙ copied_a.rows short (apart a 0 fits_a at_a fP) t l (omega arith) tt u
-        ∙ along_same F (place_of plan 0) (a.count + 1) _ _ (λ v _. sym (row_is a 0 fits_a at_a fP t l v)) u
+        ∙ along_same F (place_of plan 0) (size a + 1) _ _ (λ v _. sym (row_is a 0 fits_a at_a fP t l v)) u
 
-    dif_b : (t : ℕ) → 0 < t → t ≤ b.count → (u : ℕ) → Grid M code w₃ 128 (place_of plan a.count t) u ≡ along F (b.count + 1) (place_of plan a.count) ((form_of M code s b).dif t) u
+    dif_b : (t : ℕ) → 0 < t → t ≤ size b → (u : ℕ) → Grid M code w₃ 128 (place_of plan (size a) t) u ≡ along F (size b + 1) (place_of plan (size a)) ((form_of M code s b).dif t) u
     dif_b t l h u =
-        copied_b.rows short (apart b a.count fits_b at_b fQ) t l (omega arith) tt u
-        ∙ along_same F (place_of plan a.count) (b.count + 1) _ _ (λ v _. sym (row_is b a.count fits_b at_b fQ t l v)) u
+        copied_b.rows short (apart b (size a) fits_b at_b fQ) t l (omega arith) tt u
+        ∙ along_same F (place_of plan (size a)) (size b + 1) _ _ (λ v _. sym (row_is b (size a) fits_b at_b fQ t l v)) u
 
     off_rows : (count from t : ℕ) → (u : ℕ) → Grid M code w₃ 0 (place_of plan from t) u ≡ along F (count + 1) (place_of plan from) (λ _. F.zero) u
     off_rows count from t u = off_blank (place_of plan from t) (place_low plan from t) u ∙ sym (along_blank F (place_of plan from) (count + 1) _ (λ _ _. refl) u)
@@ -189,35 +186,35 @@ module _ (M : ScaleModel) {S : Type 0} (code : S → Row) (s : ScanOrder) (ps : 
       first : Embeds F (form_of M code s a) (diagram_in w₃ out) (place_of plan 0)
       first =
           embeds a 0 fits_a at_a fP w₃ out (form_of M code s a).off (form_of M code s a).dif (form_of M code s a).out (λ u. refl) (λ u. refl) (off_blank plan.cells (omega arith)) last_blank
-          (λ t _ _. off_rows a.count 0 t) dif_a
+          (λ t _ _. off_rows (size a) 0 t) dif_a
 
-      second : Embeds F (form_of M code s b) (diagram_in w₃ out) (place_of plan a.count)
+      second : Embeds F (form_of M code s b) (diagram_in w₃ out) (place_of plan (size a))
       second =
-          embeds b a.count fits_b at_b fQ w₃ out (form_of M code s b).off (form_of M code s b).dif (form_of M code s b).out (λ u. refl) (λ u. refl) (off_blank plan.cells (omega arith))
-          last_blank (λ t _ _. off_rows b.count a.count t) dif_b
+          embeds b (size a) fits_b at_b fQ w₃ out (form_of M code s b).off (form_of M code s b).dif (form_of M code s b).out (λ u. refl) (λ u. refl) (off_blank plan.cells (omega arith))
+          last_blank (λ t _ _. off_rows (size b) (size a) t) dif_b
 
-      whole : (t : ℕ) → t < plan.cells + 1 → Stands (form_of M code s a) (place_of plan 0) t ⊎ Stands (form_of M code s b) (place_of plan a.count) t
+      whole : (t : ℕ) → t < plan.cells + 1 → Stands (form_of M code s a) (place_of plan 0) t ⊎ Stands (form_of M code s b) (place_of plan (size a)) t
       whole t l = elim (cases_eq t plan.cells) [
         | inl e ↦ inl (0, omega arith, sym e)
         | inr e ↦ cell (d.onto t (omega arith))
       ]
         where
-          cell : (i : ℕ) × (i < k) × (get_or ps i 0 < n) × (get_or plan.place i 0 ≡ t) → Stands (form_of M code s a) (place_of plan 0) t ⊎ Stands (form_of M code s b) (place_of plan a.count) t
-          cell (i, li, _, e) = elim (dec_lt i a.count) [
+          cell : (i : ℕ) × (i < k) × (get_or ps i 0 < n) × (get_or plan.place i 0 ≡ t) → Stands (form_of M code s a) (place_of plan 0) t ⊎ Stands (form_of M code s b) (place_of plan (size a)) t
+          cell (i, li, _, e) = elim (dec_lt i (size a)) [
             | yes h ↦ inl (stands a 0 fits_a at_a fP i t (omega arith) (omega arith) e)
-            | no h ↦ inr (stands b a.count fits_b at_b fQ i t (omega arith) (omega arith) e)
+            | no h ↦ inr (stands b (size a) fits_b at_b fQ i t (omega arith) (omega arith) e)
           ]
 
       sum_formed : Formed F n (diagram_in w₃ out)
       sum_formed =
-          laid_formed F n (form_of M code s a) (form_of M code s b) (diagram_in w₃ out) (place_of plan 0) (place_of plan a.count) fP fQ first second
-          (ap (place_of plan 0) (steady_first a 0 fits_a at_a fP) ∙ sym (ap (place_of plan a.count) (steady_first b a.count fits_b at_b fQ))) whole
+          laid_formed F n (form_of M code s a) (form_of M code s b) (diagram_in w₃ out) (place_of plan 0) (place_of plan (size a)) fP fQ first second
+          (ap (place_of plan 0) (steady_first a 0 fits_a at_a fP) ∙ sym (ap (place_of plan (size a)) (steady_first b (size a) fits_b at_b fQ))) whole
 
       -- the draft of the sum of the first form and c times the second
       pub sum_means : (c : ℕ)
           → ((u : ℕ) → vec M (code out) u
-          ≡ F.plus (along F (a.count + 1) (place_of plan 0) (Grid M code a.strips.now a.base 0) u) (F.times (up M c) (along F (b.count + 1) (place_of plan a.count) (Grid M code b.strips.now b.base 0) u)))
+          ≡ F.plus (along F (size a + 1) (place_of plan 0) (Grid M code a.strips.now 0 0) u) (F.times (up M c) (along F (size b + 1) (place_of plan (size a)) (Grid M code b.strips.now 0 0) u)))
           → Drafts M code w₃ (draft_of out) n (λ x. F.plus (rule F n (form_of M code s a) x) (F.times (up M c) (rule F n (form_of M code s b) x)))
       sum_means c outlet =
           means w₃ out _ sum_formed (
-          laid F n (form_of M code s a) (form_of M code s b) (diagram_in w₃ out) (place_of plan 0) (place_of plan a.count) (up M c) fP fQ sum_formed first second (λ u _. outlet u))
+          laid F n (form_of M code s a) (form_of M code s b) (diagram_in w₃ out) (place_of plan 0) (place_of plan (size a)) (up M c) fP fQ sum_formed first second (λ u _. outlet u))

@@ -1,5 +1,5 @@
 -- A row moved to other places, one code after the other.
-use Rattle.std.proofs.Common.{◌≡◌, ℕ, suc, ◌+◌, ◌<◌, ◌≤◌, eqb, sym, refl, ap, ◌∙◌, ap₂, arith}
+use Rattle.std.proofs.Common.{◌≡◌, ℕ, suc, ◌+◌, ◌<◌, ◌≤◌, eqb, List, length, get_or, sym, refl, ap, ◌∙◌, ap₂, arith}
 use mathlib.Core.Logic.{ite}
 use native.Mathlib.Decide.{ℕ_discrete}
 use Rattle.std.proofs.lemmas.Bool.{cond_both}
@@ -7,14 +7,28 @@ use Rattle.linear.specs.Field.{Field}
 use Rattle.linear.specs.Sums.{fold}
 use Rattle.linear.proofs.Sums.{sum_cong, sum_zero}
 use Rattle.diagram.specs.Passes.{along}
-use Rattle.elimination.specs.Arithmetic.{plus_is}
 use Rattle.elimination.specs.Lift.{scalars, up, vec}
-use Rattle.elimination.proofs.Lifting.{up_plus}
+use Rattle.elimination.specs.Rows.{Rows}
+use Rattle.elimination.proofs.Grids.{rows_read}
 use Rattle.scale.specs.Model.{ScaleModel}
 use Rattle.strip.specs.Row.{Row}
+use Rattle.drafting.specs.declared.form.FormView.{FormView}
 use Rattle.drafting.specs.declared.plan.Plan.{Plan}
 use Rattle.drafting.specs.Drafts.{AddedAt}
 use Rattle.drafting.specs.Forms.{place_of}
+use Rattle.drafting.proofs.Entering.{up_more}
+
+-- how many cells a form has
+abbrev pub size : {S : Type 0} → FormView S → ℕ
+size form = length form.inputs.now
+
+-- the row that a strip of a list holds
+pub row_read : {S : Type 0} (code : S → Row) (xs : List S) (i : ℕ) (x : S) → i < length xs → x ≡ get_or xs i x → Rows code xs 0 i ≡ code x
+row_read code xs i x h e = rows_read code xs 0 i x (omega arith) (e ∙ ap (λ (k : ℕ). get_or xs k x) (omega arith))
+
+pub ite_zero : {K P : Type 0} (zero x : K) (d : Dec P) → x ≡ zero → ite d x zero ≡ zero
+ite_zero zero x (yes p) e = e
+ite_zero zero x (no p) e = refl
 
 module _ {K : Type 0} (F : Field K) (ρ : ℕ → ℕ) where
   pub along_none : (r : ℕ → K) (u : ℕ) → along F 0 ρ r u ≡ F.zero
@@ -26,19 +40,12 @@ module _ {K : Type 0} (F : Field K) (ρ : ℕ → ℕ) where
   along_more k r u = let s : k + 1 ≡ suc k = omega arith in ap (λ (i : ℕ). along F i ρ r u) s
 
   pub along_blank : (k : ℕ) (r : ℕ → K) → ((w : ℕ) → w < k → r w ≡ F.zero) → (u : ℕ) → along F k ρ r u ≡ F.zero
-  along_blank k r e u = sum_zero F k _ (λ w h. term (ℕ_discrete u (ρ w)) (r w) (e w h))
-    where
-      term : {A : Type 0} (d : Dec A) (x : K) → x ≡ F.zero → ite d x F.zero ≡ F.zero
-      term (yes _) x h = h
-      term (no _) x h = refl
+  along_blank k r e u = sum_zero F k _ (λ w h. ite_zero F.zero (r w) (ℕ_discrete u (ρ w)) (e w h))
 
   pub along_same : (k : ℕ) (r s : ℕ → K) → ((w : ℕ) → w < k → r w ≡ s w) → (u : ℕ) → along F k ρ r u ≡ along F k ρ s u
   along_same k r s e u = sum_cong F k _ _ (λ w h. ap (λ x. ite (ℕ_discrete u (ρ w)) x F.zero) (e w h))
 
 module _ (M : ScaleModel) (ρ : ℕ → ℕ) where
-  up_both : (x y : ℕ) → x < M.q → y < M.q → up M (M.plus x y) ≡ (scalars M).plus (up M x) (up M y)
-  up_both x y l h = ap (up M) (sym (plus_is M x y l h)) ∙ up_plus M x y l h
-
   -- the code at t is added at ρ t
   pub added_along : (len : ℕ) (f r g : Row) (t place x : ℕ) → AddedAt M len f place x g → place ≡ ρ t → x ≡ r t → place < len → ((p : ℕ) → f p < M.q) → x < M.q
       → ((u : ℕ) → vec M f u ≡ along (scalars M) t ρ (vec M r) u) → (u : ℕ) → vec M g u ≡ along (scalars M) (t + 1) ρ (vec M r) u
@@ -46,7 +53,7 @@ module _ (M : ScaleModel) (ρ : ℕ → ℕ) where
     where
       go : (d : Dec (u ≡ ρ t)) → up M (g u) ≡ (scalars M).plus (along (scalars M) t ρ (vec M r) u) (ite d (up M (r t)) (scalars M).zero)
       go (yes e) =
-          ap (λ (p : ℕ). up M (g p)) (e ∙ sym is) ∙ ap (up M) (A.here low code) ∙ up_both (f place) x (coded place) code
+          ap (λ (p : ℕ). up M (g p)) (e ∙ sym is) ∙ ap (up M) (A.here low code) ∙ up_more M (f place) x (coded place) code
           ∙ ap₂ (scalars M).plus (ap (λ (p : ℕ). up M (f p)) (is ∙ sym e) ∙ before u) (ap (up M) x_is)
       go (no e) = ap (up M) (A.rest u (λ h. e (h ∙ is))) ∙ before u ∙ sym ((scalars M).plus_zero _)
 

@@ -24,7 +24,8 @@ use Rattle.strip.specs.Row.{Row}
 use Rattle.drafting.specs.Arcs.{Positions, spot, Summed}
 use Rattle.drafting.specs.Meaning.{reading, patch_rule, Drafts}
 use Rattle.drafting.specs.Plan.{Placed}
-use Rattle.drafting.proofs.Summing.{along_cong, sum_off, sum_dif, sum_out}
+use Rattle.drafting.proofs.Moving.{along_same}
+use Rattle.drafting.proofs.Summing.{sum_off, sum_dif, sum_out}
 
 pub spot_cell : (m : ℕ) (place : List ℕ) (f : ℕ) → 0 < f → f ≤ 128 → spot m place f ≡ get_or place (f - 1) 0
 spot_cell m place f z l =
@@ -126,17 +127,17 @@ module _ (M : ScaleModel) (s : ScanOrder) (bytes : List ℕ) (P : Patch (listed 
       off = λ t u h k.
           sums.off (σ t) u (inside ps d.cells d.pos place read plan few t (omega arith))
           ∙ sum_off M (listed s) (declared [] (records bytes)) (records bytes) A.fine σ (apart ps d.cells d.pos place read plan few) t u (omega arith)
-          ∙ along_cong (scalars M) (suc C) σ _ _ (λ v l. code_is _) u;
+          ∙ along_same (scalars M) σ (suc C) _ _ (λ v l. code_is _) u;
       dif = λ t u h k.
           sums.dif (σ t) u (inside ps d.cells d.pos place read plan few t (omega arith))
           ∙ sum_dif M (listed s) (declared [] (records bytes)) (records bytes) A.fine σ (apart ps d.cells d.pos place read plan few) t u (omega arith)
-          ∙ along_cong (scalars M) (suc C) σ _ _ (λ v l. code_is _) u;
+          ∙ along_same (scalars M) σ (suc C) _ _ (λ v l. code_is _) u;
     }
 
     outlet : (u : ℕ) → up M (code d.out u) ≡ along (scalars M) (suc C) σ E.out u
     outlet u =
         sums.out u ∙ sum_out M (listed s) (declared [] (records bytes)) (records bytes) A.fine σ (apart ps d.cells d.pos place read plan few) u
-        ∙ along_cong (scalars M) (suc C) σ _ _ (λ v l. code_is _) u
+        ∙ along_same (scalars M) σ (suc C) _ _ (λ v l. code_is _) u
 
     draft_formed : Formed (scalars M) n (diagram_of M code w d)
     draft_formed = moved_formed (scalars M) n E (diagram_of M code w d) σ formed embeds (λ t h. stands ps d.cells d.pos place read plan few t (omega arith))

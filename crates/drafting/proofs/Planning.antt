@@ -1,6 +1,7 @@
 -- One cell more is placed; one position more; and all.
-use Rattle.std.proofs.Common.{◌≡◌, ℕ, zero, suc, ◌+◌, ◌-◌, ◌<◌, ◌≤◌, Bool, true, false, cond, eqb, ltb, ◌≢◌, List, length, get_or, set, replicate, sym, refl, ap, ◌∙◌, inl, inr, arith, get_or-set_other, get_or-set_same}
+use Rattle.std.proofs.Common.{◌≡◌, ℕ, zero, suc, ◌+◌, ◌-◌, ◌<◌, ◌≤◌, Bool, true, false, cond, eqb, ltb, ◌≢◌, List, length, length-take, get_or, take, set, replicate, sym, refl, ap, ◌∙◌, subst, inl, inr, arith, get_or-set_other, get_or-set_same}
 use Rattle.std.proofs.lemmas.Bool.{cond-true, cond-false, eq-eqb, ne_eqb, lt-ltb, le-ltb, cases_eq, cases_order}
+use Rattle.std.proofs.lemmas.List.{get_or-replicate}
 use Rattle.drafting.specs.Plan.{Placed, earlier, alike, Done, Placing}
 
 abbrev one : Bool → ℕ
@@ -215,10 +216,11 @@ finished ps k n m pos place few S = record {
     steady_is : get_or pos m 0 ≡ n
     steady_is = S.rest m (omega arith) (omega (arith, few_are))
 
-repeated : (x m i : ℕ) → i < m → get_or (replicate m x) i 0 ≡ x
-repeated x zero i l = absurd (omega arith)
-repeated x (suc m) zero l = refl
-repeated x (suc m) (suc i) l = repeated x m i (omega arith)
+-- the same of the first k positions of a list
+pub first_placed : (ps : List ℕ) (k n n' m : ℕ) (pos place : List ℕ) → k ≤ length ps → n ≡ n' → Placed (take k ps) (length (take k ps)) n m pos place → Placed (take k ps) k n' m pos place
+first_placed ps k n n' m pos place long e d =
+    let l : length (take k ps) ≡ k = omega (arith, length-take k ps) in
+    subst (λ (i : ℕ). Placed (take k ps) k i m pos place) e (subst (λ (i : ℕ). Placed (take k ps) i n m pos place) l d)
 
 repeated_zero : (m i : ℕ) → ◌≡◌ {A = ℕ} (get_or (replicate m 0) i 0) 0
 repeated_zero zero i = refl
@@ -236,7 +238,7 @@ started ps k n = record {
   rising = λ t u a b. absurd (omega arith);
   last = λ t l. absurd (omega arith);
   fresh = λ z t l. absurd (omega arith);
-  rest = λ t a b. repeated n 128 t b;
+  rest = λ t a b. get_or-replicate 128 t n 0 b;
   onto = λ t l. absurd (omega arith);
 }
   where

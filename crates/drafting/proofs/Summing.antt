@@ -19,20 +19,14 @@ use Rattle.patch.proofs.Values.{target_known}
 use Rattle.scale.specs.Model.{ScaleModel}
 use Rattle.drafting.specs.Arcs.{from_off, from_on, from_outlet, off_part, dif_part, out_part}
 use Rattle.drafting.proofs.Entering.{up_more, up_neg, no_dif}
+use Rattle.drafting.proofs.Moving.{ite_zero, along_same}
 
 module _ {K : Type 0} (F : Field K) where
-  ite_zero : {P : Type 0} (d : Dec P) (x : K) → x ≡ F.zero → ite d x F.zero ≡ F.zero
-  ite_zero (yes p) x e = e
-  ite_zero (no p) x e = refl
-
   -- a row with one entry, moved
   pub single_along : (k : ℕ) (ρ : ℕ → ℕ) (t : ℕ) → t < k → (g : ℕ → K) → ((w : ℕ) → w < k → w ≢ t → g w ≡ F.zero) → (u : ℕ)
       → along F k ρ g u ≡ ite (ℕ_discrete u (ρ t)) (g t) F.zero
   single_along k ρ t l g none u =
-      sum_single F k (λ w. ite (ℕ_discrete u (ρ w)) (g w) F.zero) t l (λ w h ne. ite_zero (ℕ_discrete u (ρ w)) (g w) (none w h ne))
-
-  pub along_cong : (k : ℕ) (ρ : ℕ → ℕ) (r s : ℕ → K) → ((w : ℕ) → w < k → r w ≡ s w) → (u : ℕ) → along F k ρ r u ≡ along F k ρ s u
-  along_cong k ρ r s e u = sum_cong F k _ _ (λ w h. ap (λ x. ite (ℕ_discrete u (ρ w)) x F.zero) (e w h))
+      sum_single F k (λ w. ite (ℕ_discrete u (ρ w)) (g w) F.zero) t l (λ w h ne. ite_zero F.zero (g w) (ℕ_discrete u (ρ w)) (none w h ne))
 
   -- a sum of rows, moved
   pub along_sum : (k : ℕ) (ρ : ℕ → ℕ) (n : ℕ) (g : ℕ → ℕ → K) (u : ℕ) → sum F n (λ i. along F k ρ (g i) u) ≡ along F k ρ (λ w. sum F n (λ i. g i w)) u
@@ -130,7 +124,7 @@ module _ (M : ScaleModel) where
       sum_off f u h =
           gathered (scalars M) (suc (length cells)) ρ (length rs) (λ i. target (nth rs i)) (λ i w. up M (led (off_from f) i w)) (λ i. from_off M ρ (nth rs i) (ρ f)) to_known (
           λ i w. led_none (off_from f) i w) (λ i. off_is (nth rs i) (fine i) f h) u
-          ∙ along_cong (scalars M) (suc (length cells)) ρ _ _ (λ w l. sym (up_fold (length rs) (λ i. led (off_from f) i w) (λ i. led_code (off_from f) i w))) u
+          ∙ along_same (scalars M) ρ (suc (length cells)) _ _ (λ w l. sym (up_fold (length rs) (λ i. led (off_from f) i w) (λ i. led_code (off_from f) i w))) u
 
       pub sum_dif : (f u : ℕ) → f ≤ length cells
           → sum (scalars M) (length rs) (λ i. dif_part M ρ (nth rs i) (ρ f) u) ≡ along (scalars M) (suc (length cells)) ρ (λ w. up M (dif_to M.plus rs M.neg f w)) u
@@ -139,7 +133,7 @@ module _ (M : ScaleModel) where
           λ i. (scalars M).plus (from_on M ρ (nth rs i) (ρ f)) ((scalars M).neg (from_off M ρ (nth rs i) (ρ f)))) to_known (
           λ i w ne. ap₂ (λ x y. (scalars M).plus x ((scalars M).neg y)) (led_none (on_from f) i w ne) (led_none (off_from f) i w ne) ∙ no_dif M) (
           λ i. ap₂ (λ x y. (scalars M).plus x ((scalars M).neg y)) (on_is (nth rs i) (fine i) f h) (off_is (nth rs i) (fine i) f h)) u
-          ∙ along_cong (scalars M) (suc (length cells)) ρ _ _ (λ w l. sym (crossed w)) u
+          ∙ along_same (scalars M) ρ (suc (length cells)) _ _ (λ w l. sym (crossed w)) u
         where
           minus : ℕ → ℕ → Element M
           minus i w = (scalars M).plus (up M (led (on_from f) i w)) ((scalars M).neg (up M (led (off_from f) i w)))
@@ -162,4 +156,4 @@ module _ (M : ScaleModel) where
       sum_out u =
           gathered (scalars M) (suc (length cells)) ρ (length rs) (λ i. target (nth rs i)) (λ i w. up M (led starts i w)) (λ i. from_outlet M (nth rs i)) to_known (
           λ i w. led_none starts i w) (λ i. outlet_is (nth rs i)) u
-          ∙ along_cong (scalars M) (suc (length cells)) ρ _ _ (λ w l. sym (up_fold (length rs) (λ i. led starts i w) (λ i. led_code starts i w))) u
+          ∙ along_same (scalars M) ρ (suc (length cells)) _ _ (λ w l. sym (up_fold (length rs) (λ i. led starts i w) (λ i. led_code starts i w))) u

@@ -1,5 +1,5 @@
 -- The draft of a form in which an input is tied: the rows of the cells that read it stand for good if it is on, and are blank if it is off.
-use Rattle.std.proofs.Common.{◌≡◌, ℕ, ◌+◌, ◌-◌, ◌<◌, ◌≤◌, Bool, true, false, cond, eqb, ◌≢◌, List, length, get_or, sym, refl, ap, ◌∙◌, subst, inl, inr, arith}
+use Rattle.std.proofs.Common.{◌≡◌, ℕ, ◌+◌, ◌-◌, ◌<◌, ◌≤◌, Bool, true, false, cond, eqb, ◌≢◌, Some, List, length, get_or, sym, refl, ap, ◌∙◌, subst, inl, inr, arith}
 use native.Mathlib.Decide.{dec_lt}
 use Rattle.std.proofs.lemmas.Bool.{cases_eq, cond-true, cond-false, eq-eqb, ne_eqb, true≢false}
 use Rattle.linear.specs.Field.{Field}
@@ -24,7 +24,7 @@ use Rattle.drafting.specs.Forms.{place_of, Apart, Copied, Free, Held}
 use Rattle.drafting.specs.Meaning.{Drafts, form_of}
 use Rattle.drafting.specs.Plan.{Placed}
 use Rattle.drafting.proofs.Laying as lay
-use Rattle.drafting.proofs.Moving.{along_blank, along_same, place_low}
+use Rattle.drafting.proofs.Moving.{size, along_blank, along_same, place_low}
 
 -- inputs of one position are one
 pub same_input : (s : ScanOrder) (x y : ℕ) → y < length (listed s) → position (listed s) x ≡ position (listed s) y → x ≡ y
@@ -34,10 +34,10 @@ same_input s x y l e = elim (dec_lt x (length (listed s))) [
 ]
 
 module _ (M : ScaleModel) {S : Type 0} (code : S → Row) (s : ScanOrder) (ps : List ℕ) (plan : Plan) (form : FormView S)
-    (d : Placed ps form.count (length (listed s)) plan.cells plan.pos plan.place) (len : ℕ) (short : plan.cells < len)
-    (listed_at : (j : ℕ) → j < form.count → get_or ps (0 + j) 0 ≡ position (listed s) (get_or form.inputs.now j 0)) (input : ℕ) (on : Bool) (known : input < length (listed s))
+    (d : Placed ps (size form) (length (listed s)) plan.cells plan.pos plan.place) (len : ℕ) (short : plan.cells < len)
+    (listed_at : (j : ℕ) → j < size form → get_or ps (0 + j) 0 ≡ position (listed s) (get_or form.inputs.now j 0)) (input : ℕ) (on : Bool) (known : input < length (listed s))
     (w₁ w₂ : List S) (blank_off : (h : ℕ) → h ≤ plan.cells → Rows code w₁ 0 h ≡ zeros) (blank_dif : (h : ℕ) → h ≤ plan.cells → Rows code w₁ 128 h ≡ zeros)
-    (copied_dif : Copied M code len plan 0 form 128 (Free form input) (form.count + 1) w₁ w₂) (copied_off : Copied M code len plan 0 form 0 (Held form input on) (form.count + 1) w₁ w₂)
+    (copied_dif : Copied M code len plan 0 form 128 (Free form (Some (input, on))) (size form + 1) w₁ w₂) (copied_off : Copied M code len plan 0 form 0 (Held form (Some (input, on))) (size form + 1) w₁ w₂)
     (fP : Formed (scalars M) (length (listed s)) (form_of M code s form)) where
   abbrev F : Field (Element M)
   F = scalars M
@@ -54,7 +54,7 @@ module _ (M : ScaleModel) {S : Type 0} (code : S → Row) (s : ScanOrder) (ps : 
   abbrev q : ℕ
   q = position (listed s) input
 
-  fits : 0 + form.count ≤ form.count
+  fits : 0 + size form ≤ size form
   fits = omega arith
 
   q_low : q < n
@@ -74,14 +74,14 @@ module _ (M : ScaleModel) {S : Type 0} (code : S → Row) (s : ScanOrder) (ps : 
     dif_other = λ t u _ _ e. cond-false _ _ _ (ne_eqb _ _ e);
   }
 
-  apart : Apart form.count ρ
-  apart = lay.apart M code s ps form.count plan d form 0 fits listed_at fP
+  apart : Apart (size form) ρ
+  apart = lay.apart M code s ps (size form) plan d form 0 fits listed_at fP
 
-  below : (t : ℕ) → 0 < t → t ≤ form.count → ρ t < plan.cells
-  below = lay.below M code s ps form.count plan d form 0 fits listed_at fP
+  below : (t : ℕ) → 0 < t → t ≤ size form → ρ t < plan.cells
+  below = lay.below M code s ps (size form) plan d form 0 fits listed_at fP
 
-  row_is : (t : ℕ) → 0 < t → (v : ℕ) → P.dif t v ≡ Grid M code form.strips.now form.base t v
-  row_is = lay.row_is M code s ps form.count plan d form 0 fits listed_at fP
+  row_is : (t : ℕ) → 0 < t → (v : ℕ) → P.dif t v ≡ Grid M code form.strips.now 0 t v
+  row_is = lay.row_is M code s ps (size form) plan d form 0 fits listed_at fP
 
   -- whether a cell reads the input
   reads : (t : ℕ) → 0 < t → P.pos t ≡ q → get_or form.inputs.now (t - 1) 0 ≡ input
@@ -94,8 +94,8 @@ module _ (M : ScaleModel) {S : Type 0} (code : S → Row) (s : ScanOrder) (ps : 
   here t = let h = place_low plan 0 t in let k = plan.few in omega arith
 
   -- the rows of an area where nothing was copied
-  module _ (area : ℕ) (chosen : ℕ → Type 0) (C : Copied M code len plan 0 form area chosen (form.count + 1) w₁ w₂) (blank : (h : ℕ) → h ≤ plan.cells → Rows code w₁ area h ≡ zeros) where
-    left_blank : (t : ℕ) → 0 < t → t ≤ form.count → (chosen t → ⊥) → (u : ℕ) → Grid M code w₂ area (ρ t) u ≡ F.zero
+  module _ (area : ℕ) (chosen : ℕ → Type 0) (C : Copied M code len plan 0 form area chosen (size form + 1) w₁ w₂) (blank : (h : ℕ) → h ≤ plan.cells → Rows code w₁ area h ≡ zeros) where
+    left_blank : (t : ℕ) → 0 < t → t ≤ size form → (chosen t → ⊥) → (u : ℕ) → Grid M code w₂ area (ρ t) u ≡ F.zero
     left_blank t a b not u =
         up_is_zero M (
         at (C.rest (ρ t) (here t) (λ i l h ch e. not (subst chosen (sym (apart t i a b l (omega arith) e)) ch)) ∙ blank (ρ t) (place_low plan 0 t)) u)
@@ -105,29 +105,29 @@ module _ (M : ScaleModel) {S : Type 0} (code : S → Row) (s : ScanOrder) (ps : 
         up_is_zero M (
         at (C.rest plan.cells (let k = plan.few in omega arith) (λ i l h _ e. (let z = below i l (omega arith) in omega arith)) ∙ blank plan.cells (omega arith)) u)
 
-  difs : (t : ℕ) → 0 < t → t ≤ form.count → (u : ℕ) → Grid M code w₂ 128 (ρ t) u ≡ along F (form.count + 1) ρ (tied_dif t) u
+  difs : (t : ℕ) → 0 < t → t ≤ size form → (u : ℕ) → Grid M code w₂ 128 (ρ t) u ≡ along F (size form + 1) ρ (tied_dif t) u
   difs t a b u = elim (cases_eq (P.pos t) q) [
-    | inl e ↦ left_blank 128 (Free form input) copied_dif blank_dif t a b (λ ne. ne (reads t a e)) u
-        ∙ sym (along_blank F ρ (form.count + 1) (tied_dif t) (λ v _. cond-true _ _ _ (eq-eqb _ _ e)) u)
+    | inl e ↦ left_blank 128 (Free form (Some (input, on))) copied_dif blank_dif t a b (λ ne. ne (reads t a e)) u
+        ∙ sym (along_blank F ρ (size form + 1) (tied_dif t) (λ v _. cond-true _ _ _ (eq-eqb _ _ e)) u)
     | inr e ↦ copied_dif.rows short apart t a (omega arith) (reads_not t a e) u
-        ∙ along_same F ρ (form.count + 1) _ (tied_dif t) (λ v _. sym (cond-false _ _ _ (ne_eqb _ _ e) ∙ row_is t a v)) u
+        ∙ along_same F ρ (size form + 1) _ (tied_dif t) (λ v _. sym (cond-false _ _ _ (ne_eqb _ _ e) ∙ row_is t a v)) u
   ]
 
-  offs : (t : ℕ) → 0 < t → t ≤ form.count → (u : ℕ) → Grid M code w₂ 0 (ρ t) u ≡ along F (form.count + 1) ρ (tied_off t) u
+  offs : (t : ℕ) → 0 < t → t ≤ size form → (u : ℕ) → Grid M code w₂ 0 (ρ t) u ≡ along F (size form + 1) ρ (tied_off t) u
   offs t a b u = elim (cases_eq (P.pos t) q) [
     | inl e ↦ held e on refl
-    | inr e ↦ left_blank 0 (Held form input on) copied_off blank_off t a b (λ h. reads_not t a e h.0) u
-        ∙ sym (along_blank F ρ (form.count + 1) (tied_off t) (λ v _. cond-false _ _ _ (ne_eqb _ _ e)) u)
+    | inr e ↦ left_blank 0 (Held form (Some (input, on))) copied_off blank_off t a b (λ h. reads_not t a e h.0) u
+        ∙ sym (along_blank F ρ (size form + 1) (tied_off t) (λ v _. cond-false _ _ _ (ne_eqb _ _ e)) u)
   ]
     where
-      held : P.pos t ≡ q → (v : Bool) → on ≡ v → Grid M code w₂ 0 (ρ t) u ≡ along F (form.count + 1) ρ (tied_off t) u
+      held : P.pos t ≡ q → (v : Bool) → on ≡ v → Grid M code w₂ 0 (ρ t) u ≡ along F (size form + 1) ρ (tied_off t) u
       held e true is =
           copied_off.rows short apart t a (omega arith) (reads t a e, is) u
-          ∙ along_same F ρ (form.count + 1) _ (tied_off t) (λ v _. sym (
+          ∙ along_same F ρ (size form + 1) _ (tied_off t) (λ v _. sym (
           cond-true _ _ _ (eq-eqb _ _ e) ∙ ap (λ (x : Bool). F.times (bit F x) (P.dif t v)) is ∙ F.times_comm _ _ ∙ F.times_one _ ∙ row_is t a v)) u
       held e false is =
-          left_blank 0 (Held form input on) copied_off blank_off t a b (λ h. true≢false (sym h.1 ∙ is)) u
-          ∙ sym (along_blank F ρ (form.count + 1) (tied_off t) (λ v _. cond-true _ _ _ (eq-eqb _ _ e) ∙ ap (λ (x : Bool). F.times (bit F x) (P.dif t v)) is ∙ zero_times F _) u)
+          left_blank 0 (Held form (Some (input, on))) copied_off blank_off t a b (λ h. true≢false (sym h.1 ∙ is)) u
+          ∙ sym (along_blank F ρ (size form + 1) (tied_off t) (λ v _. cond-true _ _ _ (eq-eqb _ _ e) ∙ ap (λ (x : Bool). F.times (bit F x) (P.dif t v)) is ∙ zero_times F _) u)
 
   steady_not : P.pos 0 ≢ q
   steady_not e = omega (arith, q_low)
@@ -137,12 +137,12 @@ module _ (M : ScaleModel) {S : Type 0} (code : S → Row) (s : ScanOrder) (ps : 
     T = rowed P tied_off tied_dif P.out
 
     abbrev D : Diagram (Element M)
-    D = lay.diagram_in M code s ps form.count plan d w₂ out
+    D = lay.diagram_in M code s ps (size form) plan d w₂ out
 
     stand : Embeds F T D ρ
     stand =
-        lay.embeds M code s ps form.count plan d form 0 fits listed_at fP w₂ out tied_off tied_dif P.out (λ u. cond-false _ _ _ (ne_eqb _ _ steady_not))
-        (λ u. cond-false _ _ _ (ne_eqb _ _ steady_not)) (last_blank 0 (Held form input on) copied_off blank_off) (last_blank 128 (Free form input) copied_dif blank_dif) offs difs
+        lay.embeds M code s ps (size form) plan d form 0 fits listed_at fP w₂ out tied_off tied_dif P.out (λ u. cond-false _ _ _ (ne_eqb _ _ steady_not))
+        (λ u. cond-false _ _ _ (ne_eqb _ _ steady_not)) (last_blank 0 (Held form (Some (input, on))) copied_off blank_off) (last_blank 128 (Free form (Some (input, on))) copied_dif blank_dif) offs difs
 
     whole : (t : ℕ) → t < plan.cells + 1 → Stands T ρ t
     whole t l = elim (cases_eq t plan.cells) [
@@ -150,8 +150,8 @@ module _ (M : ScaleModel) {S : Type 0} (code : S → Row) (s : ScanOrder) (ps : 
       | inr e ↦ cell (d.onto t (omega arith))
     ]
       where
-        cell : (i : ℕ) × (i < form.count) × (get_or ps i 0 < n) × (get_or plan.place i 0 ≡ t) → Stands T ρ t
-        cell (i, li, _, e) = lay.stands M code s ps form.count plan d form 0 fits listed_at fP i t (omega arith) (omega arith) e
+        cell : (i : ℕ) × (i < size form) × (get_or ps i 0 < n) × (get_or plan.place i 0 ≡ t) → Stands T ρ t
+        cell (i, li, _, e) = lay.stands M code s ps (size form) plan d form 0 fits listed_at fP i t (omega arith) (omega arith) e
 
     formed : Formed F n T
     formed = tied_formed F n P q on tied_off tied_dif fP q_low ties
@@ -160,8 +160,8 @@ module _ (M : ScaleModel) {S : Type 0} (code : S → Row) (s : ScanOrder) (ps : 
     draft_formed = moved_formed F n T D ρ formed stand whole
 
     -- the draft of the form where the input reads as it is tied
-    pub tied_means : ((u : ℕ) → vec M (code out) u ≡ along F (form.count + 1) ρ (Grid M code form.strips.now form.base 0) u)
-        → Drafts M code w₂ (lay.draft_of M code s ps form.count plan d out) n (λ x. rule F n P (turn q on x))
+    pub tied_means : ((u : ℕ) → vec M (code out) u ≡ along F (size form + 1) ρ (Grid M code form.strips.now 0 0) u)
+        → Drafts M code w₂ (lay.draft_of M code s ps (size form) plan d out) n (λ x. rule F n P (turn q on x))
     tied_means outlet =
-        lay.means M code s ps form.count plan d w₂ out _ draft_formed (λ x.
+        lay.means M code s ps (size form) plan d w₂ out _ draft_formed (λ x.
         moved_rule F n T D ρ formed draft_formed stand (λ u _. outlet u) x ∙ tied_rule F n P q on tied_off tied_dif fP q_low ties x)

@@ -1,19 +1,12 @@
 -- Forms laid out by a plan: where their places go, and which of their rows stand there.
-use Rattle.std.specs.Prelude.{◌≡◌, ℕ, ◌+◌, ◌-◌, ◌<◌, ◌≤◌, Bool, true, cond, ◌≢◌, List, ◌==◌, slice_index}
+use Rattle.std.specs.Prelude.{◌≡◌, ℕ, ◌+◌, ◌-◌, ◌<◌, ◌≤◌, Bool, true, cond, ◌≢◌, Option, None, Some, List, length, ◌==◌, slice_index}
 use Rattle.diagram.specs.Passes.{along}
 use Rattle.elimination.specs.Lift.{scalars, vec}
 use Rattle.elimination.specs.Rows.{Rows}
-use Rattle.patch.specs.Faults.{position}
 use Rattle.scale.specs.Model.{ScaleModel}
 use Rattle.strip.specs.Row.{Row}
 use Rattle.drafting.specs.declared.form.FormView.{FormView}
 use Rattle.drafting.specs.declared.plan.Plan.{Plan}
-
--- The list ps' is ps, with the positions of the first `count` inputs from `from` on.
-pub record Positioned (order inputs : List ℕ) (count from : ℕ) (ps ps' : List ℕ) : Type 0 where
-  pub here : (j : ℕ) → j < count → slice_index ps' (from + j) ≡ position order (slice_index inputs j)
-  pub before : (i : ℕ) → i < from → slice_index ps' i ≡ slice_index ps i
-  pub after : (i : ℕ) → from + count ≤ i → slice_index ps' i ≡ slice_index ps i
 
 -- The place that a plan gives to the place t of a form, whose cells are those of the plan from `from` on; 0 is the form's steady place.
 abbrev pub place_of : Plan → ℕ → ℕ → ℕ
@@ -30,16 +23,16 @@ Apart count ρ = (i j : ℕ) → 0 < i → i ≤ count → 0 < j → j ≤ count
 -- The rows of those of a form's cells 1 .. last - 1 that are chosen stand, moved, at their places, in the area of working memory from `area` on.
 -- The other rows there are as they were.
 pub record Copied (M : ScaleModel) {S : Type 0} (code : S → Row) (len : ℕ) (plan : Plan) (from : ℕ) (form : FormView S) (area : ℕ) (chosen : ℕ → Type 0) (last : ℕ) (work work' : List S) : Type 0 where
-  pub rows : plan.cells < len → Apart form.count (place_of plan from) → (i : ℕ) → 0 < i → i < last → chosen i
-      → Moved M form.count (place_of plan from) (Rows code form.strips.now form.base i) (Rows code work' area (place_of plan from i))
+  pub rows : plan.cells < len → Apart (length form.inputs.now) (place_of plan from) → (i : ℕ) → 0 < i → i < last → chosen i
+      → Moved M (length form.inputs.now) (place_of plan from) (Rows code form.strips.now 0 i) (Rows code work' area (place_of plan from i))
   pub rest : (k : ℕ) → k < 128 → ((i : ℕ) → 0 < i → i < last → chosen i → k ≢ place_of plan from i) → Rows code work' area k ≡ Rows code work area k
 
--- all cells, those that do not read an input, and those that do if it is on
-abbrev pub Every : ℕ → Type 0
-Every i = Unit
+-- The cells whose rows stand there at once, and those whose rows stand for good: all and none, if no input is tied;
+-- and if one is, those that do not read it, and those that do if it is on.
+abbrev pub Free : {S : Type 0} → FormView S → Option (ℕ × Bool) → ℕ → Type 0
+Free form None i = Unit
+Free form (Some (input, on)) i = slice_index form.inputs.now (i - 1) ≢ input
 
-abbrev pub Free : {S : Type 0} → FormView S → ℕ → ℕ → Type 0
-Free form input i = slice_index form.inputs.now (i - 1) ≢ input
-
-abbrev pub Held : {S : Type 0} → FormView S → ℕ → Bool → ℕ → Type 0
-Held form input on i = (slice_index form.inputs.now (i - 1) ≡ input) × (on ≡ true)
+abbrev pub Held : {S : Type 0} → FormView S → Option (ℕ × Bool) → ℕ → Type 0
+Held form None i = ⊥
+Held form (Some (input, on)) i = (slice_index form.inputs.now (i - 1) ≡ input) × (on ≡ true)

@@ -50,7 +50,7 @@ form_diagram M code order strips base count inputs = record {
 }
 
 abbrev pub form_of : (M : ScaleModel) → {S : Type 0} → (S → Row) → ScanOrder → FormView S → Diagram (Element M)
-form_of M code s f = form_diagram M code (listed s) f.strips.now f.base f.count f.inputs.now
+form_of M code s f = form_diagram M code (listed s) f.strips.now 0 (length f.inputs.now) f.inputs.now
 
 -- the draft of the sum of one form and c times another, if both are well formed
 abbrev pub DraftsSum : (M : ScaleModel) → {S : Type 0} → (S → Row) → ScanOrder → FormView S → ℕ → FormView S → List S → Draft S → Type 0

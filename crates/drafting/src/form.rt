@@ -1,12 +1,26 @@
 // A canonical form as it stands in strips, read only: the outlet's strip first, and after it the strip of each cell.
 // Its places are numbered from the steady cell, 0.
-ghost use Rattle.std.specs.Prelude.{ℕ, ◌+◌, ◌≤◌};
+ghost use Rattle.std.specs.Prelude.{⊤, ◌≡◌, ◌≤◌, length};
 
-// A form of `count` cells: its outlet is strips[base], cell k is strips[base + k] and reads inputs[k - 1].
-#[derive(Clone, Copy)]
+use std::alloc::AllocError;
+
+// The form of a slot: its outlet is strips[0], cell k is strips[k] and reads inputs[k - 1]; it has as many cells as inputs.
 pub struct FormView<'a, S> {
     pub strips: &'a [S],
-    pub base: usize,
-    pub count: usize,
-    pub inputs: &'a [u8; 31],
+    pub inputs: &'a [u8],
+    ghost few: { length inputs.now ≤ 31 },
+    ghost wide: { 32 ≤ length strips.now },
 }
+
+// kept: Clone and Copy by hand, since deriving Clone for a generic struct with ghost fields is refused (derive-over-ghost-field)
+impl<'a, S> Clone for FormView<'a, S> {
+    ghost is_clone = { λ x y. y ≡ x };
+
+    ghost is_infallible = { λ _. ⊤ };
+
+    fn clone(&self) -> Result<Self, AllocError> {
+        Ok(*self)
+    }
+}
+
+impl<'a, S> Copy for FormView<'a, S> {}

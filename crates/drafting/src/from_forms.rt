@@ -1,9 +1,12 @@
 // Drafts from forms: the sum of one form and a multiple of another, and a form with one input tied.
-ghost use Rattle.std.specs.Prelude.{◌≡◌, ℕ, ◌+◌, ◌<◌, ◌≤◌, length};
+ghost use Rattle.std.specs.Prelude.{◌≡◌, ℕ, ◌+◌, ◌<◌, ◌≤◌, ◌++◌, length, map};
+ghost use Rattle.drafting.specs.Arcs.{Positions};
 ghost use Rattle.drafting.specs.Drafts.{Ends};
-ghost use Rattle.drafting.specs.Forms.{Positioned, Copied, Every, Free, Held};
+ghost use Rattle.drafting.specs.Forms.{Copied, Free, Held};
 ghost use Rattle.drafting.specs.Meaning.{DraftsSum, DraftsTied};
+ghost use Rattle.drafting.specs.Plan.{Placed};
 ghost use Rattle.elimination.specs.Rows.{Outside};
+ghost use Rattle.patch.specs.Faults.{position};
 ghost use Rattle.patch.specs.Orders.{listed};
 ghost use Rattle.settling.specs.Draft.{Ordered, Bounded, Beyond};
 
@@ -15,37 +18,58 @@ use patch::ScanOrder;
 use settling::draft::{DIF, Draft, OFF};
 use strip::Strip;
 
-// Lists the positions of a form's cells, from `from` on.
-fn form_positions(
-    inputs: &[u8; 31],
-    count: usize,
-    order: &ScanOrder,
-    from: usize,
-    positions: &mut [u8; 128],
-)
-    requires few { count ≤ 31 }
-    requires room { from + count ≤ 128 }
-    ensures { Positioned (listed order.now) inputs.now count from positions.old positions.new }
+// Lists the positions of a form's cells.
+fn form_positions(inputs: &[u8], order: &ScanOrder, positions: &mut [u8])
+    requires room { length inputs.now ≤ length positions.old }
+    ensures { Positions (listed order.now) inputs.now positions.new }
 {
-    for j in 0..count {
-        positions[from + j] = order.position(inputs[j]);
+    // kept: tried zip over positions.iter_mut(), after which nothing is known of what stands in positions
+    for (j, input) in inputs.iter().enumerate() {
+        positions[j] = order.position(*input);
     }
 }
 
-// Puts the rows of a form's cells at their places: they have no row off.
-fn copy_cells<S: Strip>(work: &mut [S], plan: &Plan, form: &FormView<S>, from: usize)
+// Plans the draft of a form's cells, and behind them those of another.
+fn plan_forms(first: &[u8], second: &[u8], order: &ScanOrder) -> Plan
+    requires few { length first.now + length second.now ≤ 127 }
+    ensures { Placed (map (position (listed order.now)) (first.now ++ second.now)) (length first.now + length second.now) (length (listed order.now)) result.cells result.pos result.place }
+{
+    let count = first.len() + second.len();
+    let mut positions = [0; 128];
+    let (of_first, of_second) = positions.split_at_mut(first.len());
+    form_positions(first, order, of_first);
+    form_positions(second, order, of_second);
+    place_cells(&positions[..count], order.count())
+}
+
+// Puts the rows of a form's cells at their places. An input may be tied: a cell that reads it has its row for good if it reads as 1, and none if it reads as 0.
+fn copy_cells<S: Strip>(
+    work: &mut [S],
+    plan: &Plan,
+    form: &FormView<S>,
+    from: usize,
+    tied: Option<(u8, bool)>,
+)
     requires room { 512 ≤ length work.old }
-    requires few { form.now.count ≤ 31 }
-    requires strips { form.now.base + 32 ≤ length form.now.strips.now }
-    requires cells { from + form.now.count ≤ 127 }
+    requires cells { from + length form.now.inputs.now ≤ 127 }
     requires bounded { Bounded S.code work.old plan.now.cells }
     ensures bounded { Bounded S.code work.new plan.now.cells }
-    ensures dif { Copied S.Codes.Scale.model S.code S.len plan.now from form.now 128 Every (form.now.count + 1) work.old work.new }
-    ensures outside { Outside S.code work.old 128 128 work.new }
+    ensures dif { Copied S.Codes.Scale.model S.code S.len plan.now from form.now 128 (Free form.now tied) (length form.now.inputs.now + 1) work.old work.new }
+    ensures off { Copied S.Codes.Scale.model S.code S.len plan.now from form.now 0 (Held form.now tied) (length form.now.inputs.now + 1) work.old work.new }
+    ensures outside { Outside S.code work.old 0 256 work.new }
 {
-    for j in 1..form.count + 1 {
-        let row = moved(&form.strips[form.base + j], form.count, plan, from);
-        store(work, DIF, form_place(plan, from, j), row);
+    let strips = form.strips;
+    for (j, read) in form.inputs.iter().enumerate() {
+        let row = moved(&strips[j + 1], form.inputs.len(), plan, from);
+        let place = form_place(plan, from, j + 1);
+        match tied {
+            Some((input, on)) if *read == input => {
+                if on {
+                    store(work, OFF, place, row);
+                }
+            }
+            _ => store(work, DIF, place, row),
+        }
     }
 }
 
@@ -58,10 +82,6 @@ pub fn draft_sum<S: Strip>(
     b: &FormView<S>,
 ) -> Draft<S>
     requires room { 512 ≤ length work.old }
-    requires few { a.now.count ≤ 31 }
-    requires strips { a.now.base + 32 ≤ length a.now.strips.now }
-    requires few_b { b.now.count ≤ 31 }
-    requires strips_b { b.now.base + 32 ≤ length b.now.strips.now }
     ensures within { result.cells < S.len }
     ensures order { Ordered result.cells result.pos }
     ensures bounded { Bounded S.code work.new result.cells }
@@ -69,42 +89,18 @@ pub fn draft_sum<S: Strip>(
     ensures beyond { Beyond S.code work.old work.new }
     ensures means { DraftsSum S.Codes.Scale.model S.code order.now a.now c b.now work.new result }
 {
-    let mut positions = [0; 128];
-    form_positions(a.inputs, a.count, order, 0, &mut positions);
-    form_positions(b.inputs, b.count, order, a.count, &mut positions);
-    let plan = place_cells(&positions, a.count + b.count, order.count());
+    let first = a.inputs.len();
+    let plan = plan_forms(a.inputs, b.inputs, order);
     clear_rows(work, plan.cells);
-    copy_cells(work, &plan, a, 0);
-    copy_cells(work, &plan, b, a.count);
-    let mut out = moved(&a.strips[a.base], a.count, &plan, 0);
-    let other = moved(&b.strips[b.base], b.count, &plan, a.count);
+    copy_cells(work, &plan, a, 0, None);
+    copy_cells(work, &plan, b, first, None);
+    let mut out = moved(&a.strips[0], first, &plan, 0);
+    let other = moved(&b.strips[0], b.inputs.len(), &plan, first);
     add_times(&mut out, c, &other);
     Draft {
         cells: plan.cells,
         pos: plan.pos,
         out,
-    }
-}
-
-// Puts the rows of a form's cells at their places. A cell that reads the tied input has its row for good if the input is 1, and none if it is 0.
-fn copy_tied<S: Strip>(work: &mut [S], plan: &Plan, form: &FormView<S>, input: u8, on: bool)
-    requires room { 512 ≤ length work.old }
-    requires few { form.now.count ≤ 31 }
-    requires strips { form.now.base + 32 ≤ length form.now.strips.now }
-    requires bounded { Bounded S.code work.old plan.now.cells }
-    ensures bounded { Bounded S.code work.new plan.now.cells }
-    ensures dif { Copied S.Codes.Scale.model S.code S.len plan.now 0 form.now 128 (Free form.now input) (form.now.count + 1) work.old work.new }
-    ensures off { Copied S.Codes.Scale.model S.code S.len plan.now 0 form.now 0 (Held form.now input on) (form.now.count + 1) work.old work.new }
-    ensures outside { Outside S.code work.old 0 256 work.new }
-{
-    for j in 1..form.count + 1 {
-        let row = moved(&form.strips[form.base + j], form.count, plan, 0);
-        let place = form_place(plan, 0, j);
-        if form.inputs[j - 1] != input {
-            store(work, DIF, place, row);
-        } else if on {
-            store(work, OFF, place, row);
-        }
     }
 }
 
@@ -117,8 +113,6 @@ pub fn draft_tied<S: Strip>(
     on: bool,
 ) -> Draft<S>
     requires room { 512 ≤ length work.old }
-    requires few { form.now.count ≤ 31 }
-    requires strips { form.now.base + 32 ≤ length form.now.strips.now }
     ensures within { result.cells < S.len }
     ensures order { Ordered result.cells result.pos }
     ensures bounded { Bounded S.code work.new result.cells }
@@ -126,12 +120,10 @@ pub fn draft_tied<S: Strip>(
     ensures beyond { Beyond S.code work.old work.new }
     ensures means { DraftsTied S.Codes.Scale.model S.code order.now form.now input on work.new result }
 {
-    let mut positions = [0; 128];
-    form_positions(form.inputs, form.count, order, 0, &mut positions);
-    let plan = place_cells(&positions, form.count, order.count());
+    let plan = plan_forms(form.inputs, &[], order);
     clear_rows(work, plan.cells);
-    copy_tied(work, &plan, form, input, on);
-    let out = moved(&form.strips[form.base], form.count, &plan, 0);
+    copy_cells(work, &plan, form, 0, Some((input, on)));
+    let out = moved(&form.strips[0], form.inputs.len(), &plan, 0);
     Draft {
         cells: plan.cells,
         pos: plan.pos,

@@ -21,11 +21,11 @@ use strip::Strip;
 
 // Lists the positions of the patch's cells, and answers how many there are.
 fn cell_positions(patch: &Patch, positions: &mut [u8; 128]) -> usize
-    requires some { 0 < patch.now.places }
-    requires few { patch.now.places ≤ 128 }
+    requires some { 0 < patch.now.setup.places }
+    requires few { patch.now.setup.places ≤ 128 }
     ensures count { result ≡ cells_of (records (seen patch.now)) }
-    ensures within { result < patch.now.places }
-    ensures positions { Positions (listed patch.now.order) (declared [] (records (seen patch.now))) positions.new }
+    ensures within { result < patch.now.setup.places }
+    ensures positions { Positions (listed patch.now.setup.order) (declared [] (records (seen patch.now))) positions.new }
 {
     let order = patch.order();
     let mut count = 0;
@@ -43,10 +43,10 @@ fn cell_place(plan: &Plan, cell: u8) -> usize
     ensures within { result ≤ plan.now.cells }
     ensures is { result ≡ spots plan.now cell }
 {
-    if cell == 0 || cell > 128 {
-        return plan.cells;
+    match cell {
+        1..=128 => plan.place[cell as usize - 1] as usize,
+        _ => plan.cells,
     }
-    plan.place[cell as usize - 1] as usize
 }
 
 // Adds what a record says to the rows of the draft, and to its outlet.
@@ -61,8 +61,7 @@ fn add_record<S: Strip>(work: &mut [S], plan: &Plan, entry: Record, out: &mut S)
     ensures entered { Entered S.Codes.Scale.model S.code (spots plan.now) (meant entry) work.old (S.code out.old) work.new (S.code out.new) }
 {
     match entry {
-        Record::Filler => {}
-        Record::Cell(_) => {}
+        Record::Filler | Record::Cell(_) => {}
         Record::Off(from, to, c) => {
             let h = cell_place(plan, from);
             let t = cell_place(plan, to);
@@ -82,7 +81,7 @@ fn add_record<S: Strip>(work: &mut [S], plan: &Plan, entry: Record, out: &mut S)
 fn add_records<S: Strip>(work: &mut [S], plan: &Plan, patch: &Patch) -> S
     requires room { 512 ≤ length work.old }
     requires within { plan.now.cells < S.len }
-    requires codes { patch.now.codes ≡ S.Codes.Scale.model.q }
+    requires codes { patch.now.setup.codes ≡ S.Codes.Scale.model.q }
     requires bounded { Bounded S.code work.old plan.now.cells }
     requires off { (h : ℕ) → h ≤ plan.now.cells → Rows S.code work.old 0 h ≡ zeros }
     requires dif { (h : ℕ) → h ≤ plan.now.cells → Rows S.code work.old 128 h ≡ zeros }
@@ -101,18 +100,18 @@ fn add_records<S: Strip>(work: &mut [S], plan: &Plan, patch: &Patch) -> S
 // Lays the patch's diagram out in the working strips.
 pub fn draft_patch<S: Strip>(work: &mut [S], patch: &Patch) -> Draft<S>
     requires room { 512 ≤ length work.old }
-    requires places { patch.now.places ≡ S.len }
-    requires codes { patch.now.codes ≡ S.Codes.Scale.model.q }
+    requires places { patch.now.setup.places ≡ S.len }
+    requires codes { patch.now.setup.codes ≡ S.Codes.Scale.model.q }
     ensures within { result.cells < S.len }
     ensures order { Ordered result.cells result.pos }
     ensures bounded { Bounded S.code work.new result.cells }
     ensures outlet { Ends result.cells (S.code result.out) }
-    ensures drafts { Drafts S.Codes.Scale.model S.code work.new result (length (listed patch.now.order)) (patch_rule S.Codes.Scale.model patch.now.order (seen patch.now)) }
+    ensures drafts { Drafts S.Codes.Scale.model S.code work.new result (length (listed patch.now.setup.order)) (patch_rule S.Codes.Scale.model patch.now.setup.order (seen patch.now)) }
     ensures beyond { Beyond S.code work.old work.new }
 {
     let mut positions = [0; 128];
     let count = cell_positions(patch, &mut positions);
-    let plan = place_cells(&positions, count, patch.order().count());
+    let plan = place_cells(&positions[..count], patch.order().count());
     clear_rows(work, plan.cells);
     let out = add_records(work, &plan, patch);
     Draft {

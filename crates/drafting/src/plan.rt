@@ -10,45 +10,38 @@ pub struct Plan {
     pub pos: [u8; 128],
     pub place: [u8; 128],
     ghost few: { cells ≤ 127 },
-    ghost wide: { length place ≡ 128 },
     ghost bound: { (i : ℕ) → slice_index place i ≤ cells },
 }
 
-// Places the cells of position p behind those that are placed, and answers how many are placed then.
-fn place_position(
-    positions: &[u8; 128],
-    count: usize,
-    n: u8,
-    p: u8,
-    placed: usize,
-    pos: &mut [u8; 128],
-    place: &mut [u8; 128],
-) -> usize
-    requires few { count ≤ 127 }
-    requires before { Placing positions.now count n p 0 placed pos.old place.old }
-    ensures { Placing positions.now count n p count result pos.new place.new }
-{
-    let mut next = placed;
-    for c in 0..count {
-        if positions[c] == p {
-            place[c] = next as u8;
-            pos[next] = p;
-            next += 1;
+impl Plan {
+    // Places the cells of position p behind those that are placed.
+    fn place_position(&mut self, positions: &[u8], n: u8, p: u8)
+        requires few { length positions.now ≤ 127 }
+        requires before { Placing positions.now (length positions.now) n p 0 self.old.cells self.old.pos self.old.place }
+        ensures { Placing positions.now (length positions.now) n p (length positions.now) self.new.cells self.new.pos self.new.place }
+    {
+        for (c, position) in positions.iter().enumerate() {
+            if *position == p {
+                self.place[c] = self.cells as u8;
+                self.pos[self.cells] = p;
+                self.cells += 1;
+            }
         }
     }
-    next
 }
 
-// Gives the first `count` cells, whose positions are listed, a place each.
-pub fn place_cells(positions: &[u8; 128], count: usize, n: u8) -> Plan
-    requires few { count ≤ 127 }
-    ensures { Placed positions.now count n result.cells result.pos result.place }
+// Gives the cells whose positions are listed a place each.
+pub fn place_cells(positions: &[u8], n: u8) -> Plan
+    requires few { length positions.now ≤ 127 }
+    ensures { Placed positions.now (length positions.now) n result.cells result.pos result.place }
 {
-    let mut pos = [n; 128];
-    let mut place = [0; 128];
-    let mut cells = 0;
+    let mut plan = Plan {
+        cells: 0,
+        pos: [n; 128],
+        place: [0; 128],
+    };
     for p in 0..n {
-        cells = place_position(positions, count, n, p, cells, &mut pos, &mut place);
+        plan.place_position(positions, n, p);
     }
-    Plan { cells, pos, place }
+    plan
 }

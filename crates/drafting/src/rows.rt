@@ -51,6 +51,7 @@ pub fn moved<S: Strip>(row: &S, count: usize, plan: &Plan, from: usize) -> S
     ensures row { plan.now.cells < S.len → Moved S.Codes.Scale.model count (place_of plan.now from) (S.code row.now) (S.code result) }
 {
     let mut v = S::blank();
+    // kept: t is a place of the form, and no slice lists what a row holds
     for t in 0..count + 1 {
         add_at(&mut v, form_place(plan, from, t), row.ask(t));
     }

@@ -1,7 +1,8 @@
 -- The code that is computed from a form's rows is that of its diagram's rule.
-use Rattle.std.proofs.Common.{◌≡◌, ℕ, zero, suc, ◌+◌, ◌-◌, ◌<◌, ◌≤◌, Bool, true, false, cond, ◌&&◌, ◌≢◌, List, length, get_or, set, sym, ap, ◌∙◌, ap₂, arith, get_or-set_other, get_or-set_same}
+use Rattle.std.proofs.Common.{◌≡◌, ℕ, zero, suc, ◌+◌, ◌-◌, ◌<◌, ◌≤◌, Bool, true, false, cond, ◌&&◌, ◌≢◌, List, length, get_or, take, set, sym, ap, ◌∙◌, ap₂, arith, get_or-set_other, get_or-set_same}
 use native.Mathlib.Decide.{ℕ_discrete}
 use Rattle.std.proofs.lemmas.Bool.{cond-false, ne_eqb, lt-ltb}
+use Rattle.std.proofs.lemmas.List.{get_or-take, length-take-le}
 use Rattle.diagram.specs.Canonical.{Echelon}
 use Rattle.diagram.specs.Diagram.{Assignment, Diagram, rule, val}
 use Rattle.diagram.specs.Patches.{at_settings, reads_as}
@@ -49,35 +50,46 @@ module _ (M : ScaleModel) where
       ∙ ap₂ (scalars M).plus e (ap (up M) (ep ∙ times_answer M c (get_or values t 0)) ∙ up_times M c (get_or values t 0) ∙ ap (λ x. (scalars M).times (up M x) (up M (get_or values t 0))) f)
       ∙ sym (fold_more (scalars M).zero (scalars M).plus t _)
 
+  -- the first values alone
+  pub weighed_part : (row : Row) (values : List ℕ) (m : ℕ) → m ≤ length values → weighed_up M row (length (take m values)) (take m values) ≡ weighed_up M row m values
+  weighed_part row values m h =
+      let e : length (take m values) ≡ m = length-take-le m values h in
+      ap (λ j. weighed_up M row j (take m values)) e
+      ∙ sum_cong (scalars M) m _ _ (λ t l. ap (λ x. (scalars M).times (up M (row t)) (up M x)) (get_or-take m values t 0 l))
+
   -- values from place k on do not count below it
   pub weighed_set : (row : Row) (values : List ℕ) (k v j : ℕ) → j ≤ k → weighed_up M row j (set values k v) ≡ weighed_up M row j values
   weighed_set row values k v j h =
       sum_cong (scalars M) j _ _ (λ t l. let n : t ≢ k = omega arith in ap (λ x. (scalars M).times (up M (row t)) (up M x)) (get_or-set_other values k t v 0 n))
 
   -- one cell more: where its input reads 1, and where it reads 0
-  module _ (rows : ℕ → Row) (inputs : List ℕ) (setting k : ℕ) (values : List ℕ) (z : 0 < k) (v : Valued M rows (k - 1) inputs setting values) where
-    pub valued_on : (x : ℕ) → k < length values → bit setting (cell_input inputs k) ≡ true → up M x ≡ weighed_up M (rows k) k values
-        → Valued M rows (k + 1 - 1) inputs setting (set values k x)
+  module _ (rows : ℕ → Row) (inputs : List ℕ) (setting k : ℕ) (values : List ℕ) (v : Valued M rows k inputs setting values) where
+    pub valued_on : (x : ℕ) → k + 1 < length values → bit setting (cell_input inputs (k + 1)) ≡ true → up M x ≡ weighed_up M (rows (k + 1)) (k + 1) values
+        → Valued M rows (k + 1) inputs setting (set values (k + 1) x)
     valued_on x h b e = record {
-      steady = let n : 0 ≢ k = omega arith in get_or-set_other values k 0 x 0 n ∙ v.steady;
-      cell = λ j zj l. elim (ℕ_discrete j k) [
+      steady = let n : 0 ≢ k + 1 = omega arith in get_or-set_other values (k + 1) 0 x 0 n ∙ v.steady;
+      cell = λ j zj l. elim (ℕ_discrete j (k + 1)) [
         | yes s ↦ rw s (
-            ap (up M) (get_or-set_same values k x 0 h) ∙ e ∙ sym (weighed_set (rows k) values k x k (omega arith))
-            ∙ sym (ap (λ t. cond t (weighed_up M (rows k) k (set values k x)) (scalars M).zero) b))
+            ap (up M) (get_or-set_same values (k + 1) x 0 h) ∙ e ∙ sym (weighed_set (rows (k + 1)) values (k + 1) x (k + 1) (omega arith))
+            ∙ sym (ap (λ t. cond t (weighed_up M (rows (k + 1)) (k + 1) (set values (k + 1) x)) (scalars M).zero) b))
         | no n ↦
-            ap (up M) (get_or-set_other values k j x 0 n) ∙ v.cell j zj (omega arith)
-            ∙ ap (λ y. cond (bit setting (cell_input inputs j)) y (scalars M).zero) (sym (weighed_set (rows j) values k x j (omega arith)))
+            ap (up M) (get_or-set_other values (k + 1) j x 0 n) ∙ v.cell j zj (omega arith)
+            ∙ ap (λ y. cond (bit setting (cell_input inputs j)) y (scalars M).zero) (sym (weighed_set (rows j) values (k + 1) x j (omega arith)))
       ];
     }
 
-    pub valued_off : bit setting (cell_input inputs k) ≡ false → get_or values k 0 ≡ 0 → Valued M rows (k + 1 - 1) inputs setting values
+    pub valued_off : bit setting (cell_input inputs (k + 1)) ≡ false → get_or values (k + 1) 0 ≡ 0 → Valued M rows (k + 1) inputs setting values
     valued_off b e = record {
       steady = v.steady;
-      cell = λ j zj l. elim (ℕ_discrete j k) [
-        | yes s ↦ rw s (ap (up M) e ∙ up_zero M ∙ sym (ap (λ t. cond t (weighed_up M (rows k) k values) (scalars M).zero) b))
+      cell = λ j zj l. elim (ℕ_discrete j (k + 1)) [
+        | yes s ↦ rw s (ap (up M) e ∙ up_zero M ∙ sym (ap (λ t. cond t (weighed_up M (rows (k + 1)) (k + 1) values) (scalars M).zero) b))
         | no n ↦ v.cell j zj (omega arith)
       ];
     }
+
+  -- where an input is that of the next cell
+  pub next_bit : (inputs : List ℕ) (setting k i : ℕ) (b : Bool) → i ≡ get_or inputs k 0 → b ≡ bit setting i → bit setting (cell_input inputs (k + 1)) ≡ b
+  next_bit inputs setting k i b e f = let n : k + 1 - 1 ≡ k = omega arith in ap (λ j. bit setting (get_or inputs j 0)) n ∙ ap (bit setting) (sym e) ∙ sym f
 
   -- two solutions of the equations of a form's values are the same
   same_values : (k : ℕ) (x : ℕ → Bool) (row : ℕ → ℕ → Element M) (V W : ℕ → Element M) → V 0 ≡ W 0

@@ -1,14 +1,15 @@
 -- The bytes of a form, part by part, as the loops write them.
-use Rattle.std.proofs.Common.{◌≡◌, ℕ, zero, suc, ◌+◌, ◌-◌, ◌<◌, ◌≤◌, Bool, true, false, cond, eqb, ◌≢◌, List, [], ◌∷◌, ◌++◌, length, get_or, take, drop, set, sym, refl, ap, ◌∙◌, ap₂, arith, take_all}
+use Rattle.std.proofs.Common.{◌≡◌, ℕ, zero, suc, ◌+◌, ◌-◌, ◌≤◌, Bool, true, false, cond, eqb, ◌≢◌, List, [], ◌∷◌, ◌++◌, length, get_or, take, drop, sym, refl, ap, ◌∙◌, ap₂, arith, take_all}
 use lib.Seq.{take-append-le}
-use Rattle.std.proofs.lemmas.List.{append_assoc, append-nil}
+use Rattle.std.proofs.lemmas.List.{append_assoc, append-nil, length-append, length-take-le, take-append-drop, drop-drop}
+use borrow.Rule.Slice.PartMut.{put_mid}
 use Rattle.std.proofs.lemmas.Bool.{cond-true, cond-false, eq-eqb, ne_eqb}
 use Rattle.linear.specs.Sums.{fold}
 use Rattle.linear.proofs.Codes.{fold_cong}
 use Rattle.patch.specs.Encoding.{four, written, unless_zero, cell_records, on_records, outlet_records, diagram_records, encode}
 use Rattle.patch.specs.Output.{laid, Put}
 use Rattle.patch.specs.Records.{Record, on, outlet}
-use Rattle.patch.proofs.Putting.{put_whole, put_length}
+use Rattle.patch.proofs.Putting.{put_then, put_whole, put_length}
 use Rattle.strip.specs.Row.{Row}
 use Rattle.forms.specs.Forms.{cell_input, cell_bytes, arc_bytes, row_bytes}
 
@@ -73,18 +74,21 @@ arc_more mark from row t c e n =
 pub arc_none : (mark from : ℕ) (row : Row) (t : ℕ) → row t ≡ 0 → arc_bytes mark from row t ≡ arc_bytes mark from row (t + 1)
 arc_none mark from row t e = sym (fold_more [] ◌++◌ t _ ∙ ap (◌++◌ (arc_bytes mark from row t)) (cond-true _ _ _ (eq-eqb (row t) 0 e)) ∙ append-nil _)
 
--- four bytes, one after another
-pub four_laid : (out xs : List ℕ) (at : ℕ) → length xs ≡ 4
-    → set (set (set (set out at (get_or xs 0 0)) (at + 1) (get_or xs 1 0)) (at + 2) (get_or xs 2 0)) (at + 3) (get_or xs 3 0) ≡ laid out at xs
-four_laid out (a ∷ b ∷ c ∷ d ∷ []) at h =
-    let two : at + 2 ≡ at + 1 + 1 = omega arith in
-    let three : at + 3 ≡ at + 1 + 1 + 1 = omega arith in
-    ap₂ (λ i j. set (set (set (set out at a) (at + 1) b) i c) j d) two three
-four_laid out (a ∷ b ∷ c ∷ d ∷ e ∷ xs) at h = absurd (omega arith)
-four_laid out (a ∷ b ∷ c ∷ []) at h = absurd (omega arith)
-four_laid out (a ∷ b ∷ []) at h = absurd (omega arith)
-four_laid out (a ∷ []) at h = absurd (omega arith)
-four_laid out [] at h = absurd (omega arith)
+-- a text that was copied to a place of an output was put there
+pub copied : (out text ys : List ℕ) (p n end : ℕ) → ys ≡ text → n ≡ length text → end ≡ p + length text → end ≤ length out → Put out p text (put_mid p n out ys) end
+copied out text ys p n end e m f h =
+    let low : length (take p out) ≡ p = length-take-le p out (omega arith) in
+    let first : Put out 0 (take p out) (laid out 0 (take p out)) p = record { writes = refl; ends = omega (arith, low) } in
+    let same : laid out 0 (take p out) ≡ out = put_whole out (take p out) _ p first (omega (arith, low, length-take-le p out)) ∙ ap (λ m. take p out ++ drop m out) low ∙ take-append-drop p out in
+    let both : Put out 0 (take p out ++ text) (laid out p text) (p + length text) = put_then first (record { writes = ap (λ o. laid o p text) (sym same); ends = refl }) in
+    let all : length (take p out ++ text) ≡ p + length text = length-append (take p out) text ∙ ap (λ m. m + length text) low in
+    record {
+      writes = rw e (
+          ap (λ zs. take p out ++ (text ++ zs)) (ap (λ i. drop i (drop p out)) m ∙ drop-drop (length text) p out ∙ ap (λ i. drop i out) (sym all))
+          ∙ sym (append_assoc (take p out) text (drop (length (take p out ++ text)) out))
+          ∙ sym (put_whole out (take p out ++ text) (laid out p text) (p + length text) both (omega (arith, all))));
+      ends = f;
+    }
 
 -- what was put first stands first
 pub first_bytes : (out text after : List ℕ) (r : ℕ) → Put out 0 text after r → r ≤ length out → take r after ≡ text
@@ -93,10 +97,8 @@ first_bytes out text after r p h =
     ap (take r) (put_whole out text after r p (omega arith)) ∙ take-append-le r text (drop (length text) out) (omega arith) ∙ take_all r text (omega arith)
 
 -- the on arcs of one cell more
-pub row_more : (rows : ℕ → Row) (k : ℕ) (row : Row) → 0 < k → row ≡ rows k → row_bytes rows (k - 1) ++ arc_bytes 3 k row k ≡ row_bytes rows (k + 1 - 1)
-row_more rows zero row z e = absurd (omega arith)
-row_more rows (suc k) row z e =
-    let one : suc k - 1 ≡ k = omega arith in
-    let two : suc k + 1 - 1 ≡ k + 1 = omega arith in
-    ap₂ (λ (m : ℕ) (r : Row). row_bytes rows m ++ arc_bytes 3 (suc k) r (suc k)) one e
-    ∙ sym (fold_more [] ◌++◌ k (λ j. arc_bytes 3 (suc j) (rows (suc j)) (suc j))) ∙ ap (row_bytes rows) (sym two)
+pub row_more : (rows : ℕ → Row) (k : ℕ) (row : Row) → row ≡ rows (k + 1) → row_bytes rows k ++ arc_bytes 3 (k + 1) row (k + 1) ≡ row_bytes rows (k + 1)
+row_more rows k row e =
+    let n : k + 1 ≡ suc k = omega arith in
+    ap (λ (r : Row). row_bytes rows k ++ arc_bytes 3 (k + 1) r (k + 1)) e ∙ ap (λ j. row_bytes rows k ++ arc_bytes 3 j (rows j) j) n
+    ∙ sym (fold_more [] ◌++◌ k (λ j. arc_bytes 3 (suc j) (rows (suc j)) (suc j)))

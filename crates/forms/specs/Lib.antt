@@ -1,4 +1,5 @@
 pub mod Alike
+pub mod Continued
 pub mod Forms
 pub mod Keeping
 pub mod Sounding

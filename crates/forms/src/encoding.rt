@@ -1,7 +1,7 @@
 // The bytes of a form: its cell records, then the on arcs by cell and target, then the outlet arcs by target.
 ghost use Rattle.std.specs.Prelude.{◌≡◌, ℕ, ◌+◌, ◌*◌, ◌<◌, ◌≤◌, length, take};
 ghost use Rattle.elimination.specs.Rows.{Rows};
-ghost use Rattle.patch.specs.Output.{Put};
+ghost use Rattle.forms.specs.Continued.{Continued};
 ghost use Rattle.forms.specs.Forms.{form_bytes, cell_bytes, arc_bytes, row_bytes};
 
 use drafting::FormView;
@@ -10,80 +10,76 @@ use strip::Strip;
 // Room for every form: 31 cells, at most 31 arcs from each, and at most 32 outlet arcs are fewer than 1,024 records.
 pub const ENCODED_ROOM: usize = 4096;
 
-// Writes four bytes at a place, and answers the place behind them.
-fn put_record(out: &mut [u8; 4096], at: usize, four: [u8; 4]) -> usize
-    requires room { at + 4 ≤ 4096 }
-    ensures next { result ≡ at + 4 }
-    ensures puts { Put out.old at four out.new result }
-{
-    out[at] = four[0];
-    out[at + 1] = four[1];
-    out[at + 2] = four[2];
-    out[at + 3] = four[3];
-    at + 4
+// The records that are put one behind the other into an output, and the place behind the last of them.
+// kept: an array and a place in it, since nothing is allocated here: the output is memory of fixed size that a caller lends
+#[derive(Drop)]
+struct Records<'a> {
+    out: &'a mut [u8; 4096],
+    at: usize,
 }
 
-// Writes a cell record for each cell.
-fn put_cells(inputs: &[u8; 31], count: usize, out: &mut [u8; 4096]) -> usize
-    requires few { count ≤ 31 }
-    ensures most { result ≤ 4 * count }
-    ensures puts { Put out.old 0 (cell_bytes inputs.now count) out.new result }
-{
-    let mut at = 0;
-    for k in 0..count {
-        at = put_record(out, at, [1, inputs[k], 0, 0]);
+impl<'a> Records<'a> {
+    // Puts a record.
+    fn put(&mut self, four: [u8; 4])
+        requires room { self.old.at + 4 ≤ 4096 }
+        ensures next { self.new.at ≡ self.old.at + 4 }
+        ensures puts { Continued self.old four self.new }
+    {
+        let out = &mut *self.out;
+        out[self.at..self.at + 4].copy_from_slice(&four);
+        self.at += 4;
     }
-    at
-}
 
-// Writes an arc for each filled one of the first places of a row: mark, from, target, code.
-fn put_arcs<S: Strip>(
-    row: &S,
-    places: usize,
-    mark: u8,
-    from: u8,
-    out: &mut [u8; 4096],
-    start: usize,
-) -> usize
-    requires few { places ≤ 32 }
-    requires room { start + 4 * places ≤ 4096 }
-    ensures most { result ≤ start + 4 * places }
-    ensures puts { Put out.old start (arc_bytes mark from (S.code row.now) places) out.new result }
-{
-    let mut at = start;
-    for t in 0..places {
-        let c = row.ask(t);
-        if c != 0 {
-            at = put_record(out, at, [mark, from, t as u8, c]);
+    // Puts a cell record for each cell.
+    fn put_cells(&mut self, inputs: &[u8])
+        requires room { self.old.at + 4 * length inputs.now ≤ 4096 }
+        ensures most { self.new.at ≡ self.old.at + 4 * length inputs.now }
+        ensures puts { Continued self.old (cell_bytes inputs.now (length inputs.now)) self.new }
+    {
+        for input in inputs {
+            self.put([1, *input, 0, 0]);
         }
     }
-    at
-}
 
-// Writes the on arcs of each cell.
-fn put_rows<S: Strip>(form: &FormView<S>, out: &mut [u8; 4096], start: usize) -> usize
-    requires few { form.now.count ≤ 31 }
-    requires strips { form.now.base + 32 ≤ length form.now.strips.now }
-    requires room { start ≤ 124 }
-    ensures most { result ≤ 3968 }
-    ensures puts { Put out.old start (row_bytes (Rows S.code form.now.strips.now form.now.base) form.now.count) out.new result }
-{
-    let mut at = start;
-    for k in 1..form.count + 1 {
-        at = put_arcs(&form.strips[form.base + k], k, 3, k as u8, out, at);
+    // Puts an arc for each filled one of the first places of a row: mark, from, target, code.
+    fn put_arcs<S: Strip>(&mut self, row: &S, places: usize, mark: u8, from: u8)
+        requires few { places ≤ 32 }
+        requires room { self.old.at + 4 * places ≤ 4096 }
+        ensures most { self.new.at ≤ self.old.at + 4 * places }
+        ensures puts { Continued self.old (arc_bytes mark from (S.code row.now) places) self.new }
+    {
+        // kept: a range, since a strip is asked for its codes by place and has no slice of them
+        for t in 0..places {
+            let c = row.ask(t);
+            if c != 0 {
+                self.put([mark, from, t as u8, c]);
+            }
+        }
     }
-    at
+
+    // Puts the on arcs of each cell.
+    fn put_rows<S: Strip>(&mut self, form: &FormView<S>)
+        requires room { self.old.at ≤ 124 }
+        ensures most { self.new.at ≤ 3968 }
+        ensures puts { Continued self.old (row_bytes (Rows S.code form.now.strips.now 0) (length form.now.inputs.now)) self.new }
+    {
+        let strips = form.strips;
+        for (k, row) in strips[1..form.inputs.len() + 1].iter().enumerate() {
+            self.put_arcs(row, k + 1, 3, k as u8 + 1);
+        }
+    }
 }
 
 // Writes the form's bytes, and answers how many there are.
 pub fn encode<S: Strip>(form: &FormView<S>, out: &mut [u8; 4096]) -> usize
-    requires few { form.now.count ≤ 31 }
-    requires strips { form.now.base + 32 ≤ length form.now.strips.now }
     ensures most { result ≤ 4096 }
-    ensures long { result ≡ length (form_bytes S.code form.now.strips.now form.now.base form.now.count form.now.inputs.now) }
-    ensures bytes { take result out.new ≡ form_bytes S.code form.now.strips.now form.now.base form.now.count form.now.inputs.now }
+    ensures long { result ≡ length (form_bytes S.code form.now.strips.now 0 (length form.now.inputs.now) form.now.inputs.now) }
+    ensures bytes { take result out.new ≡ form_bytes S.code form.now.strips.now 0 (length form.now.inputs.now) form.now.inputs.now }
 {
-    let cells = put_cells(form.inputs, form.count, out);
-    let rows = put_rows(form, out, cells);
-    put_arcs(&form.strips[form.base], form.count + 1, 4, 0, out, rows)
+    let strips = form.strips;
+    let mut records = Records { out, at: 0 };
+    records.put_cells(form.inputs);
+    records.put_rows(form);
+    records.put_arcs(&strips[0], form.inputs.len() + 1, 4, 0);
+    records.at
 }

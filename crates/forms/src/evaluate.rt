@@ -9,15 +9,14 @@ use drafting::FormView;
 use scale::Scale;
 use strip::Strip;
 
-// The sum of what the row holds at each of the first places times the value there.
-fn weighted<S: Strip>(row: &S, values: &[u8; 32], places: usize) -> u8
-    requires few { places ≤ 32 }
+// The sum, over the places that have a value, of what the row holds there times the value.
+fn weighted<S: Strip>(row: &S, values: &[u8]) -> u8
     ensures code { result < S.Codes.Scale.model.q }
-    ensures value { up S.Codes.Scale.model result ≡ weighed_up S.Codes.Scale.model (S.code row.now) places values.now }
+    ensures value { up S.Codes.Scale.model result ≡ weighed_up S.Codes.Scale.model (S.code row.now) (length values.now) values.now }
 {
     let mut sum = 0;
-    for t in 0..places {
-        sum = S::Codes::sum(sum, S::Codes::product(row.ask(t), values[t]));
+    for (t, value) in values.iter().enumerate() {
+        sum = S::Codes::sum(sum, S::Codes::product(row.ask(t), *value));
     }
     sum
 }
@@ -31,15 +30,14 @@ fn reads_one(setting: u64, input: u8) -> bool
 
 // The values of the cells, from number 1 up: a cell has no off arcs, so it is worth 0 where its input is 0.
 fn cell_values<S: Strip>(form: &FormView<S>, setting: u64) -> [u8; 32]
-    requires few { form.now.count ≤ 31 }
-    requires strips { form.now.base + 32 ≤ length form.now.strips.now }
-    ensures { Valued S.Codes.Scale.model (Rows S.code form.now.strips.now form.now.base) form.now.count form.now.inputs.now setting result }
+    ensures { Valued S.Codes.Scale.model (Rows S.code form.now.strips.now 0) (length form.now.inputs.now) form.now.inputs.now setting result }
 {
+    let strips = form.strips;
     let mut values = [0; 32];
     values[0] = 1;
-    for k in 1..form.count + 1 {
-        if reads_one(setting, form.inputs[k - 1]) {
-            values[k] = weighted(&form.strips[form.base + k], &values, k);
+    for (k, (row, input)) in strips[1..].iter().zip(form.inputs).enumerate() {
+        if reads_one(setting, *input) {
+            values[k + 1] = weighted(row, &values[..k + 1]);
         }
     }
     values
@@ -47,11 +45,10 @@ fn cell_values<S: Strip>(form: &FormView<S>, setting: u64) -> [u8; 32]
 
 // The code of the form's rule at a setting.
 pub fn code_at<S: Strip>(form: &FormView<S>, setting: u64) -> u8
-    requires few { form.now.count ≤ 31 }
-    requires strips { form.now.base + 32 ≤ length form.now.strips.now }
     ensures code { result < S.Codes.Scale.model.q }
-    ensures sounds { Sounds S.Codes.Scale.model S.code form.now.strips.now form.now.base form.now.count form.now.inputs.now setting result }
+    ensures sounds { Sounds S.Codes.Scale.model S.code form.now.strips.now 0 (length form.now.inputs.now) form.now.inputs.now setting result }
 {
+    let strips = form.strips;
     let values = cell_values(form, setting);
-    weighted(&form.strips[form.base], &values, form.count + 1)
+    weighted(&strips[0], &values[..form.inputs.len() + 1])
 }

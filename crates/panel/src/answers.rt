@@ -1,116 +1,117 @@
 // Answers as lines of text.
 use crate::script::Fault;
-use crate::words::push_hex;
-use patch::{Patch, Refusal, ScanOrder, listing, refusal_line};
-use rack::Answer;
+use patch::{Patch, Refusal, ScanOrder, Setup, listing};
+use rack::{Answer, Outcome};
 use scale::Scale;
 use std::alloc::{AllocError, Global};
+use std::fmt::Display;
 use strip::Strip;
-
-fn push_number(heap: Global, text: &mut Vec<u8>, n: usize) -> Result<(), AllocError> {
-    let digits = n.to_string(heap)?;
-    text.extend_from_slice(digits.as_bytes())
-}
-
-fn push_error(heap: Global, text: &mut Vec<u8>, line: usize) -> Result<(), AllocError> {
-    text.extend_from_slice(b"error ")?;
-    push_number(heap, text, line)?;
-    text.extend_from_slice(b" ")
-}
-
-// A call on a rack where none is open, by the number of its line.
-pub fn push_no_rack(heap: Global, text: &mut Vec<u8>, line: usize) -> Result<(), AllocError> {
-    push_error(heap, text, line)?;
-    text.extend_from_slice(b"no rack is open\n")
-}
-
-// Why a line is no call, behind its number.
-pub fn push_fault(
-    heap: Global,
-    text: &mut Vec<u8>,
-    line: usize,
-    fault: &Fault,
-) -> Result<(), AllocError> {
-    push_error(heap, text, line)?;
-    match fault {
-        Fault::UnknownCall => text.extend_from_slice(b"unknown call")?,
-        Fault::WordCount => text.extend_from_slice(b"wrong number of words")?,
-        Fault::NoNumber(word) => push_no(text, word, b" is no number")?,
-        Fault::NoScale(word) => push_no(text, word, b" is no scale")?,
-        Fault::NoHexadecimal(word) => push_no(text, word, b" is no hexadecimal")?,
-    }
-    text.extend_from_slice(b"\n")
-}
-
-fn push_no(text: &mut Vec<u8>, word: &[u8], what: &[u8]) -> Result<(), AllocError> {
-    text.extend_from_slice(word)?;
-    text.extend_from_slice(what)
-}
-
-pub fn push_refusal(text: &mut Vec<u8>, refusal: &Refusal) -> Result<(), AllocError> {
-    let mut line = [0; 64];
-    match refusal_line(refusal, &mut line) {
-        Ok(n) => text.extend_from_slice(&line[0..n.min(64)]),
-        Err(_) => Ok(()),
-    }
-}
-
-pub fn push_answer(heap: Global, text: &mut Vec<u8>, answer: &Answer) -> Result<(), AllocError> {
-    match answer {
-        Answer::Done => text.extend_from_slice(b"done\n"),
-        Answer::Agree(true) => text.extend_from_slice(b"yes\n"),
-        Answer::Agree(false) => text.extend_from_slice(b"no\n"),
-        Answer::Count(cells) => {
-            text.extend_from_slice(b"cells ")?;
-            push_number(heap, text, *cells)?;
-            text.extend_from_slice(b"\n")
-        }
-        Answer::Heard { code, velocity } => {
-            text.extend_from_slice(b"sound ")?;
-            push_number(heap, text, *code as usize)?;
-            text.extend_from_slice(b" ")?;
-            push_number(heap, text, *velocity as usize)?;
-            text.extend_from_slice(b"\n")
-        }
-        Answer::Wrote(bytes) => {
-            text.extend_from_slice(b"bytes ")?;
-            push_hex(text, bytes)?;
-            text.extend_from_slice(b"\n")
-        }
-        Answer::Refused(refusal) => push_refusal(text, refusal),
-    }
-}
 
 // Room for the listing of every settled form.
 const LISTING_ROOM: usize = 65536;
 
-// The listing of bytes that were written.
-fn push_listing<S: Strip>(
+// The lines so far. They are kept as bytes, for a word of a script that is named in an error need be no text.
+#[derive(Drop)]
+pub struct Report {
     heap: Global,
-    text: &mut Vec<u8>,
-    order: &ScanOrder,
-    bytes: &[u8],
-) -> Result<(), AllocError> {
-    let mut lines = vec![in heap; 0u8; LISTING_ROOM]?;
-    let patch = Patch::admit(bytes, order, S::length(), S::Codes::codes());
-    match listing(&patch, &mut lines) {
-        Ok(n) => {
-            let n = n.min(lines.len());
-            text.extend_from_slice(&lines[0..n])
-        }
-        Err(refusal) => push_refusal(text, &refusal),
-    }
+    lines: Vec<u8>,
 }
 
-// The answer of a write, listed.
-pub fn push_listed<S: Strip>(
-    heap: Global,
-    text: &mut Vec<u8>,
-    order: &ScanOrder,
-    answer: &Answer,
-) -> Result<(), AllocError> {
-    match answer {
-        Answer::Wrote(bytes) => push_listing::<S>(heap, text, order, bytes),
-        _ => push_answer(heap, text, answer),
+// Bytes that a rack over strips of this kind wrote, as a patch.
+fn written<'a, S: Strip>(bytes: &'a [u8], order: &ScanOrder) -> Patch<'a> {
+    let setup = Setup {
+        order: *order,
+        places: S::length(),
+        codes: S::Codes::codes(),
+    };
+    Patch::admit(bytes, &setup)
+}
+
+impl Report {
+    pub fn new(heap: Global) -> Report {
+        Report {
+            heap,
+            lines: Vec::new(heap),
+        }
+    }
+
+    pub fn into_bytes(self) -> Vec<u8> {
+        let Report { heap: _, lines } = self;
+        lines
+    }
+
+    // What `write!` and `writeln!` call.
+    fn write_fmt<D: Display + Drop>(&mut self, shown: D) -> Result<(), AllocError> {
+        let text = String::format(self.heap, shown)?;
+        self.lines.extend_from_slice(text.as_bytes())
+    }
+
+    // A word of the script, and what it is not.
+    fn no(&mut self, word: &[u8], what: &str) -> Result<(), AllocError> {
+        self.lines.extend_from_slice(word)?;
+        writeln!(self, " is no {what}")
+    }
+
+    // Why a line is no call that can be made, behind its number.
+    pub fn error(&mut self, line: usize, fault: &Fault) -> Result<(), AllocError> {
+        write!(self, "error {line} ")?;
+        match fault {
+            Fault::UnknownCall => writeln!(self, "unknown call"),
+            Fault::WordCount => writeln!(self, "wrong number of words"),
+            Fault::NoNumber(word) => self.no(word, "number"),
+            Fault::NoScale(word) => self.no(word, "scale"),
+            Fault::NoHexadecimal(word) => self.no(word, "hexadecimal"),
+            Fault::NoRack => writeln!(self, "no rack is open"),
+        }
+    }
+
+    pub fn refusal(&mut self, refusal: &Refusal) -> Result<(), AllocError> {
+        writeln!(self, "{refusal}")
+    }
+
+    // Bytes in hexadecimal, `-` for none.
+    fn bytes(&mut self, bytes: &[u8]) -> Result<(), AllocError> {
+        write!(self, "bytes ")?;
+        if bytes.is_empty() {
+            write!(self, "-")?;
+        }
+        for b in bytes {
+            write!(self, "{b:02x}")?;
+        }
+        writeln!(self, "")
+    }
+
+    fn answer(&mut self, answer: &Answer) -> Result<(), AllocError> {
+        match answer {
+            Answer::Done => writeln!(self, "done"),
+            Answer::Agree(true) => writeln!(self, "yes"),
+            Answer::Agree(false) => writeln!(self, "no"),
+            Answer::Count(cells) => writeln!(self, "cells {cells}"),
+            Answer::Heard { code, velocity } => writeln!(self, "sound {code} {velocity}"),
+            Answer::Wrote(bytes) => self.bytes(bytes),
+        }
+    }
+
+    pub fn outcome(&mut self, outcome: &Outcome) -> Result<(), AllocError> {
+        match outcome {
+            Ok(answer) => self.answer(answer),
+            Err(refusal) => self.refusal(refusal),
+        }
+    }
+
+    // What came of a write, where the bytes are listed.
+    pub fn listed<S: Strip>(
+        &mut self,
+        order: &ScanOrder,
+        outcome: &Outcome,
+    ) -> Result<(), AllocError> {
+        let Ok(Answer::Wrote(bytes)) = outcome else {
+            return self.outcome(outcome);
+        };
+        let mut lines = vec![in self.heap; 0u8; LISTING_ROOM]?;
+        match listing(&written::<S>(bytes, order), &mut lines) {
+            Ok(n) => self.lines.extend_from_slice(&lines[..n]),
+            Err(refusal) => self.refusal(&refusal),
+        }
     }
 }

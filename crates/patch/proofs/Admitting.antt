@@ -1,14 +1,16 @@
 -- What the whole check answers, and what bytes that pass it are. Assumes nothing.
 use Rattle.std.proofs.Common.{◌≡◌, ℕ, zero, suc, ◌+◌, ◌%◌, ◌<◌, ◌≤◌, Bool, true, false, cond, eqb, ltb, leb, ◌≢◌, ◌↔◌, List, [], ◌∷◌, length, sym, refl, ap, ◌∙◌, arith}
 use Rattle.std.proofs.lemmas.Bool.{cond-true, cond-false, lt-ltb, le-ltb, eq-eqb, le-leb, ltb-false, true≢false}
-use Rattle.patch.specs.declared.order.ScanOrder.{ScanOrder}
+use Rattle.patch.specs.declared.setup.Setup.{Setup}
 use Rattle.patch.specs.declared.window.Patch.{Patch as Window}
-use Rattle.patch.specs.Records.{Record, filler, cell, off, on, outlet, unmarked, unclean, records, declare, cells_of}
+use Rattle.patch.specs.Records.{Record, filler, cell, off, on, outlet, unmarked, unclean, records, declare, cells_of, Readable}
 use Rattle.patch.specs.Faults.{Verdict, passed, refused, fault, check_from, check_patch, Bytes, Patch}
 use Rattle.patch.specs.Admitted.{examined, passes, Admitted}
 use Rattle.patch.specs.Orders.{listed}
 use Rattle.patch.specs.Windows.{seen, Admits}
-use Rattle.patch.proofs.Checked.{checks_sound, checks_length}
+use Rattle.patch.proofs.Checked.{checks_sound, checks_length, records_length}
+use Rattle.patch.proofs.Facts.{readable}
+use Rattle.patch.proofs.Orders.{lawful}
 
 module _ (order : List ℕ) (L q : ℕ) (bytes : List ℕ) where
   pub examined_long : 65536 < length bytes → examined order L q bytes ≡ refused 10 0
@@ -85,5 +87,13 @@ admits_patches order L q bytes l = (
   λ p. passed_admitted order L q bytes p.0.held p.2 ((checks_sound order L q bytes l p.0.held).1 (p.0, p.1)),
 )
 
-pub shows_all : (bytes : List ℕ) (order : ScanOrder) (L q : ℕ) (w : Window) → Admits bytes order L q w → examined (listed order) L q bytes ≡ passed → seen w ≡ bytes
-shows_all bytes order L q w a e = a.shows ∙ cond-true _ _ _ (ap passes e)
+pub shows_all : (bytes : List ℕ) (setup : Setup) (w : Window) → Admits bytes setup w → examined (listed setup.order) setup.places setup.codes bytes ≡ passed → seen w ≡ bytes
+shows_all bytes setup w a e = a.shows ∙ cond-true _ _ _ (ap passes e)
+
+pub shows_readable : (w : Window) → Readable (records (seen w))
+shows_readable w =
+    let setup = w.setup in
+    readable (listed setup.order) setup.codes (seen w) (lawful setup.order) (admitted_patch (listed setup.order) setup.places setup.codes (seen w) w.admitted)
+
+pub shows_few : (w : Window) → length (records (seen w)) ≤ 16384
+shows_few w = omega (arith, admitted_short (listed w.setup.order) w.setup.places w.setup.codes (seen w) w.admitted, records_length (seen w))

@@ -1,8 +1,8 @@
 -- What holds of each record of a patch, over all its cells. Assumes nothing.
-use Rattle.std.proofs.Common.{◌≡◌, ℕ, zero, suc, ◌-◌, ◌<◌, ◌≤◌, ◌≢◌, List, [], ◌∷◌, ◌++◌, length, get_or, sym, refl, ◌∙◌, inl, inr, arith}
+use Rattle.std.proofs.Common.{◌≡◌, ℕ, zero, suc, ◌-◌, ◌<◌, ◌≤◌, ◌≢◌, List, [], ◌∷◌, ◌++◌, length, get_or, sym, refl, ◌∙◌, subst, inl, inr, arith}
 use lib.ListN.{get_or-append, get_or-eq_default}
 use Rattle.std.proofs.lemmas.Bool.{cases_lt}
-use Rattle.patch.specs.Records.{Record, filler, cell, off, on, outlet, unmarked, unclean, records, declare, declared, input, nth, cells_of, reads}
+use Rattle.patch.specs.Records.{Record, filler, cell, off, on, outlet, unmarked, unclean, records, declare, declared, input, nth, cells_of, reads, Readable}
 use Rattle.patch.specs.Faults.{position, Order, Later, Arc, Fine, AllFine, Patch}
 use Rattle.patch.proofs.Checked.{declare_more, declared_more}
 
@@ -90,6 +90,12 @@ facts_of order q rs o a =
 
 pub facts : (order : List ℕ) (q : ℕ) (bytes : List ℕ) → Order order → Patch order q bytes → Facts order q (records bytes)
 facts order q bytes o p = facts_of order q (records bytes) o p.fine
+
+-- and each is one
+pub readable : (order : List ℕ) (q : ℕ) (bytes : List ℕ) → Order order → Patch order q bytes → Readable (records bytes)
+readable order q bytes o p k =
+    let P : Record → Type 0 = λ r. Fine order q (declared [] (records bytes)) r in
+    let f = (facts order q bytes o p).fine k in (λ e. subst P e f, λ e. subst P e f)
 
 -- a record that is no filler has its place
 pub inside : (rs : List Record) (k : ℕ) (r : Record) → nth rs k ≡ r → r ≢ filler → k < length rs

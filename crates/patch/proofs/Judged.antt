@@ -1,5 +1,5 @@
 -- What the judgement on a record says of the record and its fault. Assumes nothing.
-use Rattle.std.proofs.Common.{◌≡◌, ℕ, zero, suc, ◌+◌, ◌-◌, ◌<◌, ◌≤◌, Bool, true, false, cond, not, ◌&&◌, ◌||◌, eqb, ltb, leb, ◌≢◌, ◌⊎◌, List, [], ◌∷◌, ◌++◌, length, get_or, set, Ok, Err, Result, sym, refl, ap, ◌∙◌, subst, inl, inr, arith}
+use Rattle.std.proofs.Common.{◌≡◌, ℕ, zero, suc, ◌+◌, ◌-◌, ◌<◌, ◌≤◌, Bool, true, false, cond, not, ◌&&◌, ◌||◌, eqb, ltb, leb, ◌≢◌, ◌⊎◌, List, [], ◌∷◌, ◌++◌, length, get_or, set, Ok, Err, Result, Fits, w8, sym, refl, ap, ◌∙◌, inl, inr, arith}
 use Rattle.std.proofs.lemmas.Bool.{cond-true, cond-false, or_parts, ltb-false, eqb-false, lt-ltb, le-ltb, eq-eqb, ne_eqb, cases_eq, cases_lt}
 use Rattle.std.proofs.lemmas.List.{length_push, get_or_push, get_or_append_left, get_or-set_same, get_or-set_other, length-set}
 use Rattle.patch.specs.declared.cells.Cells.{Cells}
@@ -8,9 +8,9 @@ use Rattle.patch.specs.declared.record.Record.TheVariants.{Filler, Cell, Off, On
 use Rattle.patch.specs.declared.refusal.Refusal.{Refusal}
 use Rattle.patch.specs.declared.refusal.Refusal.TheVariants.{UnknownMark, NotZero, CellInput, CellLimit, UnknownCell, NotLater, ArcCode}
 use Rattle.patch.specs.Records.{Record, filler, cell, off, on, outlet, unmarked, unclean, read, input}
-use Rattle.patch.specs.Faults.{position, later, arc_fault, fault, Fine}
+use Rattle.patch.specs.Faults.{position, later, arc_fault, fault}
 use Rattle.patch.specs.Refusals.{number, place}
-use Rattle.patch.specs.Judging.{meant, Holds, Says, fine, faulty, Judges, told}
+use Rattle.patch.specs.Judging.{meant, Holds, Says, fine, faulty, four, Judges, told}
 
 -- the judgement on four bytes at a place, when `count` cells stand before them and cell f reads `reads f`
 abbrev pub judged_four : List ℕ → ℕ → ℕ → ℕ → (ℕ → ℕ) → ℕ → ℕ → ℕ → ℕ → ℕ → Result Entry Refusal
@@ -133,28 +133,25 @@ module _ (order : List ℕ) (L q : ℕ) (cells : List ℕ) (k : ℕ) where
     four_says (suc (suc (suc (suc (suc n))))) a b c u v =
         rw (unmarked_four (suc (suc (suc (suc (suc n))))) a b c (omega arith), lt-ltb 4 (suc (suc (suc (suc (suc n))))) (omega arith)) (faulty (UnknownMark k) refl (λ z. omega arith))
 
-pub judged_tells : (order : List ℕ) (L q : ℕ) (s : Cells) (k : ℕ) (xs : List ℕ) → ((i : ℕ) → get_or xs i 0 < 256) → (r : Result Entry Refusal)
+pub judged_tells : {order : List ℕ} {L q : ℕ} {s : Cells} {k : ℕ} {xs : List ℕ} {r : Result Entry Refusal} → ((i : ℕ) → Fits w8 (get_or xs i 0))
     → r ≡ judged_four order L q s.count (λ f. get_or s.inputs f 0) k (get_or xs 0 0) (get_or xs 1 0) (get_or xs 2 0) (get_or xs 3 0) → Judges order L q s k xs r
-judged_tells order L q s k xs typed r e cells h =
-    rw e (four_says order L q cells k s h (get_or xs 0 0) (get_or xs 1 0) (get_or xs 2 0) (get_or xs 3 0) (typed 1) (typed 2))
+judged_tells {order} {L} {q} {s} {k} {xs} typed e = record {
+  says = λ cells h. rw e (four_says order L q cells k s h (get_or xs 0 0) (get_or xs 1 0) (get_or xs 2 0) (get_or xs 3 0) (omega (arith, typed 1)) (omega (arith, typed 2)));
+}
 
--- what four fine bytes say
-clean : (order : List ℕ) (q : ℕ) (cells : List ℕ) (b : Bool) (r : Record) → Fine order q cells (cond b r unclean) → r ≡ cond b r unclean
-clean order q cells true r f = refl
-clean order q cells false r f = absurd f
+-- what four bytes say that are a record
+clean : (b : Bool) (r : Record) → cond b r unclean ≢ unclean → r ≡ cond b r unclean
+clean true r n = refl
+clean false r n = absurd (n refl)
 
-told_four : (order : List ℕ) (q : ℕ) (cells : List ℕ) (m a b c : ℕ) → Fine order q cells (read m a b c)
+told_four : (m a b c : ℕ) → read m a b c ≢ unmarked → read m a b c ≢ unclean
     → meant (cond (eqb m 1) (Cell a) (cond (eqb m 2) (Off a b c) (cond (eqb m 3) (On a b c) (cond (eqb m 4) (Outlet b c) Filler)))) ≡ read m a b c
-told_four order q cells zero a b c f = clean order q cells (eqb a 0 && eqb b 0 && eqb c 0) filler f
-told_four order q cells (suc zero) a b c f = clean order q cells (eqb b 0 && eqb c 0) (cell a) f
-told_four order q cells (suc (suc zero)) a b c f = refl
-told_four order q cells (suc (suc (suc zero))) a b c f = refl
-told_four order q cells (suc (suc (suc (suc zero)))) a b c f = clean order q cells (eqb a 0) (outlet b c) f
-told_four order q cells (suc (suc (suc (suc (suc n))))) a b c f =
-    let m : ℕ = suc (suc (suc (suc (suc n)))) in
-    let P : Record → Type 0 = λ r. Fine order q cells r in absurd (subst P (unmarked_four order 0 q cells 0 m a b c (omega arith)) f)
+told_four zero a b c u n = clean (eqb a 0 && eqb b 0 && eqb c 0) filler n
+told_four (suc zero) a b c u n = clean (eqb b 0 && eqb c 0) (cell a) n
+told_four (suc (suc zero)) a b c u n = refl
+told_four (suc (suc (suc zero))) a b c u n = refl
+told_four (suc (suc (suc (suc zero)))) a b c u n = clean (eqb a 0) (outlet b c) n
+told_four (suc (suc (suc (suc (suc m))))) a b c u n = absurd (u (unmarked_four [] 0 0 [] 0 (suc (suc (suc (suc (suc m))))) a b c (omega arith)))
 
-pub told_is : (order : List ℕ) (q : ℕ) (cells xs : List ℕ) → length xs ≡ 4 → Fine order q cells (read (get_or xs 0 0) (get_or xs 1 0) (get_or xs 2 0) (get_or xs 3 0))
-    → meant (told xs) ≡ read (get_or xs 0 0) (get_or xs 1 0) (get_or xs 2 0) (get_or xs 3 0)
-told_is order q cells xs l f =
-    ap meant (cond-true _ _ _ (eq-eqb _ 4 l)) ∙ told_four order q cells (get_or xs 0 0) (get_or xs 1 0) (get_or xs 2 0) (get_or xs 3 0) f
+pub told_is : (xs : List ℕ) → length xs ≡ 4 → four xs ≢ unmarked → four xs ≢ unclean → meant (told xs) ≡ four xs
+told_is xs l u n = ap meant (cond-true _ _ _ (eq-eqb _ 4 l)) ∙ told_four (get_or xs 0 0) (get_or xs 1 0) (get_or xs 2 0) (get_or xs 3 0) u n

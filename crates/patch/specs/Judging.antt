@@ -31,8 +31,8 @@ abbrev pub four : List ℕ → Record
 four xs = read (slice_index xs 0) (slice_index xs 1) (slice_index xs 2) (slice_index xs 3)
 
 -- the answer about four bytes, for any list of cells that stand before them
-abbrev pub Judges : List ℕ → ℕ → ℕ → Cells → ℕ → List ℕ → Result Entry Refusal → Type 0
-Judges order L q s k xs r = (cells : List ℕ) → Holds s cells → Says (four xs) k r (fault order L q cells (four xs))
+pub record Judges (order : List ℕ) (L q : ℕ) (s : Cells) (k : ℕ) (xs : List ℕ) (r : Result Entry Refusal) : Type 0 where
+  pub says : (cells : List ℕ) → Holds s cells → Says (four xs) k r (fault order L q cells (four xs))
 
 -- what four bytes without a fault say, to the program
 abbrev pub told : List ℕ → Entry

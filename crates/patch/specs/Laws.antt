@@ -2,6 +2,7 @@
 use Rattle.std.specs.Prelude.{◌≡◌, ℕ, ◌^◌, ◌<◌, ◌≤◌, ◌↔◌, List, [], ◌∷◌, ◌++◌, length, codes, decimal, slice_index}
 use Rattle.std.specs.Str.Parse.{IsNumeral, digits_value}
 use Rattle.patch.specs.declared.order.ScanOrder.{ScanOrder}
+use Rattle.patch.specs.declared.setup.Setup.{Setup}
 use Rattle.patch.specs.declared.window.Patch.{Patch as Window}
 use Rattle.patch.specs.declared.refusal.Refusal.TheVariants.{ArcCode, TooManyCells}
 use Rattle.patch.specs.Admitted.{examined, Admitted}
@@ -17,11 +18,11 @@ OrdersLawful = (s : ScanOrder) → Order (listed s)
 
 -- What a window shows is a patch of at most 65,536 bytes.
 abbrev pub WindowsShowPatches : Type 0
-WindowsShowPatches = (w : Window) → Patch (listed w.order) w.codes (seen w) × (length (seen w) ≤ 65536)
+WindowsShowPatches = (w : Window) → Patch (listed w.setup.order) w.setup.codes (seen w) × (length (seen w) ≤ 65536)
 
 -- A window taken on bytes that pass the check shows them all.
 abbrev pub WindowsShowAll : Type 0
-WindowsShowAll = (bytes : List ℕ) (order : ScanOrder) (L q : ℕ) (w : Window) → Admits bytes order L q w → examined (listed order) L q bytes ≡ passed → seen w ≡ bytes
+WindowsShowAll = (bytes : List ℕ) (setup : Setup) (w : Window) → Admits bytes setup w → examined (listed setup.order) setup.places setup.codes bytes ≡ passed → seen w ≡ bytes
 
 -- Where there are places, exactly the patches of fewer cells than places and at most 65,536 bytes are admitted.
 abbrev pub AdmitsPatches : Type 0

@@ -35,8 +35,12 @@ or_silent (b ∷ text) = b ∷ text
 abbrev pub listing_text : List Record → List ℕ
 listing_text rs = or_silent (lines [] rs)
 
+-- a refusal in words, and the line of it
+abbrev pub refusal_words : Refusal → List ℕ
+refusal_words e = codes "refused" ++ (field (number e) ++ field (place e))
+
 abbrev pub refusal_text : Refusal → List ℕ
-refusal_text e = codes "refused" ++ (field (number e) ++ (field (place e) ++ newline))
+refusal_text e = refusal_words e ++ newline
 
 -- a text was asked for in an output: it is put first and its length answered, or the output is too short and stays
 abbrev pub Printed : List ℕ → List ℕ → Result ℕ Refusal → List ℕ → Type 0

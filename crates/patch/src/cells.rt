@@ -1,6 +1,7 @@
 // The cells declared so far: how many, and which input each reads. An arc names a cell by one byte, so the inputs of the first 255 are kept.
 ghost use Rattle.std.specs.Prelude.{◌≡◌, ◌+◌, ◌^◌, ◌<◌, ◌||◌, ltb, length, if◌then◌else◌, ◌==◌, nat_le, nat_lt, slice_index, slice_set};
 
+// kept: a table of fixed size with the count beside it, since the library uses no heap.
 #[derive(Clone, Copy)]
 pub struct Cells {
     count: usize,

@@ -7,28 +7,21 @@ ghost use Rattle.patch.specs.Records.{records};
 ghost use Rattle.patch.specs.Refusals.{Tells};
 
 use crate::cells::Cells;
-use crate::order::ScanOrder;
 use crate::record::{Record, check_record};
 use crate::refusal::Refusal;
+use crate::setup::Setup;
 
 // The most bytes a patch may have.
 const MOST_BYTES: usize = 65536;
 
 // Checks the records one by one; the first faulty one ends the scan.
-fn scan(bytes: &[u8], order: &ScanOrder, places: usize, codes: u8) -> Result<(), Refusal>
-    ensures { Tells result (check_from (listed order.now) places codes 0 [] (records bytes.now)) }
+fn scan(bytes: &[u8], setup: &Setup) -> Result<(), Refusal>
+    ensures { Tells result (check_from (listed setup.now.order) setup.now.places setup.now.codes 0 [] (records bytes.now)) }
 {
     let mut cells = Cells::none();
     'scan: {
-        for k in 0..bytes.len() / 4 {
-            let record = match check_record(
-                &bytes[4 * k..4 * k + 4],
-                k,
-                &cells,
-                order,
-                places,
-                codes,
-            ) {
+        for (k, record) in bytes.chunks_exact(4).enumerate() {
+            let record = match check_record(record, k, &cells, setup) {
                 Ok(record) => record,
                 Err(refusal) => break 'scan Err(refusal),
             };
@@ -40,9 +33,9 @@ fn scan(bytes: &[u8], order: &ScanOrder, places: usize, codes: u8) -> Result<(),
     }
 }
 
-// Whether some bytes are a patch for this scan order, so many places and so many codes.
-pub fn examine(bytes: &[u8], order: &ScanOrder, places: usize, codes: u8) -> Result<(), Refusal>
-    ensures { Tells result (examined (listed order.now) places codes bytes.now) }
+// Whether some bytes are a patch for this setup.
+pub fn examine(bytes: &[u8], setup: &Setup) -> Result<(), Refusal>
+    ensures { Tells result (examined (listed setup.now.order) setup.now.places setup.now.codes bytes.now) }
 {
     if bytes.len() > MOST_BYTES {
         return Err(Refusal::LongPatch);
@@ -50,6 +43,6 @@ pub fn examine(bytes: &[u8], order: &ScanOrder, places: usize, codes: u8) -> Res
     if bytes.len() % 4 != 0 {
         return Err(Refusal::BrokenRecord);
     }
-    scan(bytes, order, places, codes)?;
+    scan(bytes, setup)?;
     Ok(())
 }

@@ -5,6 +5,7 @@ ghost use Rattle.patch.specs.Undoes.{Undoes};
 mod calls;
 
 // The first `count` places of both tables count, and there the tables undo each other.
+// kept: tables of fixed size with the count beside them, since the library uses no heap.
 #[derive(Clone, Copy)]
 pub struct ScanOrder {
     count: u8,

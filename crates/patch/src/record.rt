@@ -5,11 +5,11 @@ ghost use Rattle.patch.specs.Faults.{position};
 ghost use Rattle.patch.specs.Orders.{listed};
 
 use crate::cells::Cells;
-use crate::order::ScanOrder;
 use crate::refusal::Refusal;
+use crate::setup::Setup;
 
 // What a record without a fault says. Arcs have the cell they come from, the cell they lead to, and their code.
-#[derive(Clone, Copy)]
+#[derive(Clone, Copy, Debug, PartialEq, Eq)]
 pub enum Record {
     Filler,
     Cell(u8),
@@ -19,9 +19,10 @@ pub enum Record {
 }
 
 // Whether an arc leads to the steady cell, or to a cell whose input is read later.
-fn leads_later(from: u8, to: u8, cells: &Cells, order: &ScanOrder) -> bool
-    ensures { result ≡ (to == 0) || nat_lt (position (listed order.now) (slice_index cells.now.inputs from)) (position (listed order.now) (slice_index cells.now.inputs to)) }
+fn leads_later(from: u8, to: u8, cells: &Cells, setup: &Setup) -> bool
+    ensures { result ≡ (to == 0) || nat_lt (position (listed setup.now.order) (slice_index cells.now.inputs from)) (position (listed setup.now.order) (slice_index cells.now.inputs to)) }
 {
+    let order = &setup.order;
     to == 0 || order.position(cells.input(from)) < order.position(cells.input(to))
 }
 
@@ -30,26 +31,24 @@ pub fn check_record(
     record: &[u8],
     place: usize,
     cells: &Cells,
-    order: &ScanOrder,
-    places: usize,
-    codes: u8,
+    setup: &Setup,
 ) -> Result<Record, Refusal>
     requires { length «record».now ≡ 4 }
-    ensures { Judges (listed order.now) places codes cells.now place «record».now result }
+    ensures { Judges (listed setup.now.order) setup.now.places setup.now.codes cells.now place «record».now result }
 {
     match record {
         [5..=255, _, _, _] => Err(Refusal::UnknownMark(place)),
         [0, 0, 0, 0] => Ok(Record::Filler),
-        [1, i, 0, 0] if order.count() <= *i => Err(Refusal::CellInput(place)),
-        [1, _, 0, 0] if cells.full(places) => Err(Refusal::CellLimit(place)),
+        [1, i, 0, 0] if setup.order.count() <= *i => Err(Refusal::CellInput(place)),
+        [1, _, 0, 0] if cells.full(setup.places) => Err(Refusal::CellLimit(place)),
         [1, i, 0, 0] => Ok(Record::Cell(*i)),
         [2 | 3, f, t, _] if cells.lacks(*f, *t) => Err(Refusal::UnknownCell(place)),
-        [2 | 3, f, t, _] if !leads_later(*f, *t, cells, order) => Err(Refusal::NotLater(place)),
-        [2 | 3, _, _, c] if codes <= *c => Err(Refusal::ArcCode(place)),
+        [2 | 3, f, t, _] if !leads_later(*f, *t, cells, setup) => Err(Refusal::NotLater(place)),
+        [2 | 3, _, _, c] if setup.codes <= *c => Err(Refusal::ArcCode(place)),
         [2, f, t, c] => Ok(Record::Off(*f, *t, *c)),
         [3, f, t, c] => Ok(Record::On(*f, *t, *c)),
         [4, 0, t, _] if !cells.has(*t) => Err(Refusal::UnknownCell(place)),
-        [4, 0, _, c] if codes <= *c => Err(Refusal::ArcCode(place)),
+        [4, 0, _, c] if setup.codes <= *c => Err(Refusal::ArcCode(place)),
         [4, 0, t, c] => Ok(Record::Outlet(*t, *c)),
         [_, _, _, _] => Err(Refusal::NotZero(place)),
         _ => unreachable(),

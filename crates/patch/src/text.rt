@@ -1,41 +1,47 @@
-// Text put into an output from a place on, as far as the output reaches. Each function answers where its text ends.
-ghost use Rattle.std.specs.Prelude.{◌+◌, ◌^◌, ◌<◌, ◌≤◌, length, decimal};
-ghost use Rattle.patch.specs.Output.{Put, field};
+// Text put into an output, as far as the output reaches.
+ghost use Rattle.std.specs.Prelude.{◌≡◌, ◌+◌, ◌^◌, ◌<◌, ◌≤◌, length, decimal};
+ghost use Rattle.patch.specs.Output.{Puts, field};
 
-pub fn put_text(text: &[u8], out: &mut [u8], at: usize) -> usize
-    requires { (at < 2 ^ 62) × (length text.now < 2 ^ 62) }
-    ensures { Put out.old at text.now out.new result }
-{
-    let mut end = at;
-    for b in text {
-        if end < out.len() {
-            out[end] = *b;
+// An output, and where in it the next text begins. Text that does not fit is lost, but the place goes on.
+// kept: `writeln!` into this as an `fmt::Write` was tried: its text is promised only where it answers Ok, nothing says that it does, and the exact answer of `listing` stayed open.
+#[derive(Drop)]
+pub struct Output<'a> {
+    pub out: &'a mut [u8],
+    pub at: usize,
+}
+
+impl Output<'_> {
+    pub fn text(&mut self, text: &[u8])
+        requires { (self.old.at < 2 ^ 62) × (length text.now < 2 ^ 62) }
+        ensures puts { Puts self.old text.now self.new }
+    {
+        let end = self.at + text.len();
+        if self.at < self.out.len() {
+            let seen = end.min(self.out.len());
+            self.out[self.at..seen].copy_from_slice(&text[..seen - self.at]);
         }
-        end += 1;
+        self.at = end;
     }
-    end
-}
 
-// A number in decimal.
-pub fn put_number(n: usize, out: &mut [u8], at: usize) -> usize
-    requires { at < 2 ^ 61 }
-    ensures puts { Put out.old at (decimal n) out.new result }
-    ensures near { result ≤ at + 20 }
-{
-    let front = if n >= 10 {
-        put_number(n / 10, out, at)
-    } else {
-        at
-    };
-    put_text(&[b'0' + (n % 10) as u8], out, front)
-}
+    // A number in decimal.
+    pub fn number(&mut self, n: usize)
+        requires { self.old.at < 2 ^ 61 }
+        ensures puts { Puts self.old (decimal n) self.new }
+        ensures near { self.new.at ≤ self.old.at + 20 }
+    {
+        if n >= 10 {
+            self.number(n / 10);
+        }
+        self.text(&[b'0' + (n % 10) as u8]);
+    }
 
-// A space, and a number.
-pub fn put_field(n: usize, out: &mut [u8], at: usize) -> usize
-    requires { at < 2 ^ 60 }
-    ensures puts { Put out.old at (field n) out.new result }
-    ensures near { result ≤ at + 21 }
-{
-    let start = put_text(b" ", out, at);
-    put_number(n, out, start)
+    // A space, and a number.
+    pub fn field(&mut self, n: usize)
+        requires { self.old.at < 2 ^ 60 }
+        ensures puts { Puts self.old (field n) self.new }
+        ensures near { self.new.at ≤ self.old.at + 21 }
+    {
+        self.text(b" ");
+        self.number(n);
+    }
 }

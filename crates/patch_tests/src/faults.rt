@@ -1,5 +1,5 @@
 // Each fault of a patch: its number and the place of its record.
-use patch::{ScanOrder, examine};
+use patch::{ScanOrder, Setup, examine};
 use std::process::Abort;
 
 // What the check answers at gates, with inputs 0 and 1 in that order: 0 for none.
@@ -8,7 +8,12 @@ fn answer(bytes: &[u8], places: usize) -> (u8, usize) {
     if let Err(_) = order.arrange(&[0, 1]) {
         return (255, 0);
     }
-    match examine(bytes, &order, places, 2) {
+    let setup = Setup {
+        order,
+        places,
+        codes: 2,
+    };
+    match examine(bytes, &setup) {
         Ok(()) => (0, 0),
         Err(refusal) => (refusal.number(), refusal.place()),
     }
@@ -91,10 +96,9 @@ fn first_of_two_records(rt: HostRuntime) {
 }
 
 // Makes 300 cell records and an arc from the last cell that a byte can name, and tries them with more and more places.
-fn try_places(rt: &impl Abort, bytes: &mut [u8]) {
-    assert!(rt; bytes.len() == 1204);
-    for k in 0..300 {
-        bytes[4 * k] = 1;
+fn try_places(rt: &impl Abort, bytes: &mut [u8; 1204]) {
+    for record in bytes.chunks_exact_mut(4).take(300) {
+        record[0] = 1;
     }
     bytes[1200] = 3;
     bytes[1201] = 255;

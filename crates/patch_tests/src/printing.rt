@@ -1,5 +1,6 @@
 // The listing and the refusal line.
-use patch::{Patch, Refusal, ScanOrder, listing, refusal_line};
+use patch::{Patch, Refusal, ScanOrder, Setup, listing, refusal_line};
+use std::alloc::AllocError;
 use std::process::Abort;
 use std::test::Fail;
 
@@ -9,9 +10,13 @@ fn prints(rt: &impl Abort, bytes: &[u8], room: usize, text: &[u8]) -> Result<(),
     if room > 256 {
         return Err(Fail::new("no such room"));
     }
-    let order = ScanOrder::new();
-    let patch = Patch::admit(bytes, &order, 64, 200);
-    let length = match listing(&patch, &mut out[0..room]) {
+    let setup = Setup {
+        order: ScanOrder::new(),
+        places: 64,
+        codes: 200,
+    };
+    let patch = Patch::admit(bytes, &setup);
+    let length = match listing(&patch, &mut out[..room]) {
         Ok(length) => length,
         Err(refusal) => {
             assert_eq!(rt; (refusal.number(), refusal.place()), (9, 0));
@@ -19,10 +24,8 @@ fn prints(rt: &impl Abort, bytes: &[u8], room: usize, text: &[u8]) -> Result<(),
         }
     };
     assert_eq!(rt; length, text.len());
-    for k in 0..256 {
-        let wanted = if k < text.len() { text[k] } else { 7 };
-        assert_eq!(rt; out[k], wanted);
-    }
+    assert!(rt; out.starts_with(text));
+    assert!(rt; out.iter().skip(text.len()).all(|b| *b == 7));
     Ok(())
 }
 
@@ -50,7 +53,7 @@ fn line(rt: &impl Abort, refusal: &Refusal, room: usize, text: &[u8]) -> Result<
     if room > 64 {
         return Err(Fail::new("no such room"));
     }
-    let length = match refusal_line(refusal, &mut out[0..room]) {
+    let length = match refusal_line(refusal, &mut out[..room]) {
         Ok(length) => length,
         Err(refusal) => {
             assert_eq!(rt; (refusal.number(), refusal.place()), (9, 0));
@@ -58,10 +61,8 @@ fn line(rt: &impl Abort, refusal: &Refusal, room: usize, text: &[u8]) -> Result<
         }
     };
     assert_eq!(rt; length, text.len());
-    for k in 0..64 {
-        let wanted = if k < text.len() { text[k] } else { 7 };
-        assert_eq!(rt; out[k], wanted);
-    }
+    assert!(rt; out.starts_with(text));
+    assert!(rt; out.iter().skip(text.len()).all(|b| *b == 7));
     Ok(())
 }
 
@@ -78,4 +79,11 @@ fn refusals(rt: HostRuntime) -> Result<(), Fail> {
         b"refused 12 18446744073709551615\n",
     )?;
     line(&rt, &Refusal::UnknownMark(18446744073709551615), 31, b"")
+}
+
+#[test]
+fn words(rt: HostRuntime) -> Result<(), AllocError> {
+    let refusal = Refusal::ArcCode(16383).to_string(rt.alloc())?;
+    assert_eq!(rt; refusal.as_str(), "refused 18 16383");
+    Ok(())
 }

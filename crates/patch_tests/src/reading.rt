@@ -1,5 +1,5 @@
 // The scan order and the window.
-use patch::{Patch, Record, ScanOrder};
+use patch::{Patch, Record, ScanOrder, Setup};
 
 // What arranging by a list answers: 0 for no refusal.
 fn arranged(order: &mut ScanOrder, list: &[u8]) -> u8 {
@@ -65,36 +65,37 @@ fn scan_orders(rt: HostRuntime) {
 }
 
 // A record by its mark and the three bytes after it.
-fn spelled(record: Record) -> (u8, u8, u8, u8) {
+fn spelled(record: Record) -> [u8; 4] {
     match record {
-        Record::Filler => (0, 0, 0, 0),
-        Record::Cell(i) => (1, i, 0, 0),
-        Record::Off(f, t, c) => (2, f, t, c),
-        Record::On(f, t, c) => (3, f, t, c),
-        Record::Outlet(t, c) => (4, 0, t, c),
+        Record::Filler => [0, 0, 0, 0],
+        Record::Cell(i) => [1, i, 0, 0],
+        Record::Off(f, t, c) => [2, f, t, c],
+        Record::On(f, t, c) => [3, f, t, c],
+        Record::Outlet(t, c) => [4, 0, t, c],
     }
 }
 
 #[test]
 fn windows(rt: HostRuntime) {
     let bytes = [1, 0, 0, 0, 0, 0, 0, 0, 2, 1, 0, 6, 3, 1, 0, 5, 4, 0, 1, 7];
-    let order = ScanOrder::new();
-    let patch = Patch::admit(&bytes, &order, 64, 8);
+    let eight = Setup {
+        order: ScanOrder::new(),
+        places: 64,
+        codes: 8,
+    };
+    let patch = Patch::admit(&bytes, &eight);
     assert_eq!(rt; (patch.count(), patch.bytes().len()), (5, 20));
-    for k in 0..5 {
-        assert_eq!(rt;
-            spelled(patch.record(k)),
-            (
-                bytes[4 * k],
-                bytes[4 * k + 1],
-                bytes[4 * k + 2],
-                bytes[4 * k + 3],
-            )
-        );
+    for (k, four) in bytes.chunks_exact(4).enumerate() {
+        assert_eq!(rt; spelled(patch.record(k)).as_slice(), four);
     }
-    assert_eq!(rt; spelled(patch.record(5)), (0, 0, 0, 0));
+    assert_eq!(rt; spelled(patch.record(5)), [0, 0, 0, 0]);
+    assert_eq!(rt; patch.records().count(), 5);
+    for (record, four) in patch.records().zip(bytes.chunks_exact(4)) {
+        assert_eq!(rt; spelled(record).as_slice(), four);
+    }
     // code 7 is none of seven codes
-    let none = Patch::admit(&bytes, &order, 64, 7);
+    let seven = Setup { codes: 7, ..eight };
+    let none = Patch::admit(&bytes, &seven);
     assert_eq!(rt; (none.count(), none.bytes().len()), (0, 0));
-    assert_eq!(rt; spelled(none.record(0)), (0, 0, 0, 0));
+    assert_eq!(rt; spelled(none.record(0)), [0, 0, 0, 0]);
 }

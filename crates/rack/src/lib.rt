@@ -6,4 +6,4 @@ pub mod hold;
 pub mod playing;
 
 pub use hold::Rack;
-pub use playing::{Answer, Press, play};
+pub use playing::{Answer, Outcome, Press, play};

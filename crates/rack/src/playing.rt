@@ -56,35 +56,15 @@ pub enum Answer {
     Count(usize),
     Heard { code: u8, velocity: u8 },
     Wrote(Vec<u8>),
-    Refused(Refusal),
 }
 
-fn done(res: Result<(), Refusal>) -> Answer {
-    match res {
-        Ok(()) => Answer::Done,
-        Err(refusal) => Answer::Refused(refusal),
-    }
-}
+// What comes of a call: its answer, or why it is refused.
+pub type Outcome = Result<Answer, Refusal>;
 
-fn agree(res: Result<bool, Refusal>) -> Answer {
-    match res {
-        Ok(same) => Answer::Agree(same),
-        Err(refusal) => Answer::Refused(refusal),
-    }
-}
-
-fn count(res: Result<usize, Refusal>) -> Answer {
-    match res {
-        Ok(cells) => Answer::Count(cells),
-        Err(refusal) => Answer::Refused(refusal),
-    }
-}
-
-fn heard(res: Result<(u8, u8), Refusal>) -> Answer {
-    match res {
-        Ok((code, velocity)) => Answer::Heard { code, velocity },
-        Err(refusal) => Answer::Refused(refusal),
-    }
+// So many of the working strips, from the first on; all of them, if there are fewer.
+fn first<S>(work: &mut [S], most: usize) -> &mut [S] {
+    let n = most.min(work.len());
+    &mut work[..n]
 }
 
 fn wrote<S: Strip>(
@@ -92,15 +72,13 @@ fn wrote<S: Strip>(
     rack: &Rack<S>,
     a: usize,
     room: usize,
-) -> Result<Answer, AllocError> {
+) -> Result<Outcome, AllocError> {
     let mut out = vec![in heap; 0u8; room.min(ENCODED_ROOM)]?;
-    match rack.write(a, &mut out) {
-        Ok(n) => {
-            out.truncate(n);
-            Ok(Answer::Wrote(out))
-        }
-        Err(refusal) => Ok(Answer::Refused(refusal)),
-    }
+    let length = rack.write(a, &mut out);
+    Ok(length.map(|n| {
+        out.truncate(n);
+        Answer::Wrote(out)
+    }))
 }
 
 // Makes one call.
@@ -109,51 +87,44 @@ fn make_call<S: Strip>(
     rack: &mut Rack<S>,
     press: &Press,
     work: &mut [S],
-) -> Result<Answer, AllocError> {
-    let most = work.len();
-    match press {
+) -> Result<Outcome, AllocError> {
+    let done = |()| Answer::Done;
+    Ok(match *press {
         Press::Load {
             slot,
-            patch,
+            ref patch,
             work: n,
-        } => {
-            let n = (*n).min(most);
-            Ok(done(rack.load(*slot, patch, &mut work[0..n])))
-        }
-        Press::Lay { to, a, b, work: n } => {
-            let n = (*n).min(most);
-            Ok(done(rack.lay(*to, *a, *b, &mut work[0..n])))
-        }
-        Press::Weigh { to, a, code } => Ok(done(rack.weigh(*to, *a, *code))),
+        } => rack.load(slot, patch, first(work, n)).map(done),
+        Press::Lay { to, a, b, work: n } => rack.lay(to, a, b, first(work, n)).map(done),
+        Press::Weigh { to, a, code } => rack.weigh(to, a, code).map(done),
         Press::Tie {
             to,
             a,
             input,
             v,
             work: n,
-        } => {
-            let n = (*n).min(most);
-            Ok(done(rack.tie(*to, *a, *input, *v, &mut work[0..n])))
-        }
-        Press::Same { a, b } => Ok(agree(rack.same(*a, *b))),
-        Press::Cells { a } => Ok(count(rack.cells(*a))),
-        Press::Sound { a, setting } => Ok(heard(rack.sound(*a, *setting))),
-        Press::Write { a, room } => wrote(heap, rack, *a, *room),
-    }
+        } => rack.tie(to, a, input, v, first(work, n)).map(done),
+        Press::Same { a, b } => rack.same(a, b).map(Answer::Agree),
+        Press::Cells { a } => rack.cells(a).map(Answer::Count),
+        Press::Sound { a, setting } => rack
+            .sound(a, setting)
+            .map(|(code, velocity)| Answer::Heard { code, velocity }),
+        Press::Write { a, room } => wrote(heap, rack, a, room)?,
+    })
 }
 
-// Opens a rack over the strips, makes the calls one after the other, and answers what each answered.
+// Opens a rack over the strips, makes the calls one after the other, and says what came of each.
 pub fn play<S: Strip>(
     heap: Global,
     order: &ScanOrder,
     strips: &mut [S],
     work: &mut [S],
     presses: &[Press],
-) -> Result<Vec<Answer>, AllocError> {
+) -> Result<Vec<Outcome>, AllocError> {
     let mut rack = Rack::open(order, strips);
-    let mut answers = Vec::new(heap);
-    for p in presses {
-        answers.push(make_call(heap, &mut rack, p, work)?)?;
+    let mut outcomes = Vec::new(heap);
+    for press in presses {
+        outcomes.push(make_call(heap, &mut rack, press, work)?)?;
     }
-    Ok(answers)
+    Ok(outcomes)
 }

@@ -4,11 +4,12 @@
 #![tactic(auto)]
 
 use forms::ENCODED_ROOM;
-use patch::{Patch, Refusal, ScanOrder, listing, refusal_line};
+use patch::{Patch, Refusal, ScanOrder, Setup, listing};
 use rack::Rack;
 use rack::hold::STRIPS;
 use scale::Scale;
 use scale::gates::Gates;
+use std::alloc::{AllocError, Global};
 use std::io::{Read, Write};
 use strip::Strip;
 use strip::gates::GateStrip;
@@ -23,74 +24,65 @@ const SCAN_LIST: [u8; 24] = [
 // Room for the listing of every settled form.
 const LISTING_ROOM: usize = 65536;
 
-// Settles a patch, and puts the listing of its settled bytes into the text; answers the listing's length.
-fn settled_listing(
-    bytes: &[u8],
-    strips: &mut [GateStrip],
-    work: &mut [GateStrip],
-    settled: &mut [u8],
-    text: &mut [u8],
-) -> Result<usize, Refusal> {
-    let mut order = ScanOrder::new();
-    order.arrange(&SCAN_LIST)?;
-    let mut rack = Rack::open(&order, strips);
-    let written = written_listing(&mut rack, &order, bytes, work, settled, text);
-    written
+// Why there is no listing: the patch is refused, or there was no memory.
+#[derive(Drop)]
+enum Stop {
+    Refused(Refusal),
+    Memory(AllocError),
 }
 
-// Loads a patch into the first slot, writes the settled bytes, and lists them.
-fn written_listing(
-    rack: &mut Rack<GateStrip>,
-    order: &ScanOrder,
-    bytes: &[u8],
-    work: &mut [GateStrip],
-    settled: &mut [u8],
-    text: &mut [u8],
-) -> Result<usize, Refusal> {
-    rack.load(0, bytes, work)?;
-    let n = rack.write(0, settled)?;
-    let n = n.min(settled.len());
-    let patch = Patch::admit(
-        &settled[0..n],
-        order,
-        <GateStrip as Strip>::length(),
-        <Gates as Scale>::codes(),
-    );
-    listing(&patch, text)
-}
-
-// The text to print: the listing, or the line of the refusal.
-fn answer(
-    bytes: &[u8],
-    strips: &mut [GateStrip],
-    work: &mut [GateStrip],
-    settled: &mut [u8],
-    text: &mut [u8],
-) -> usize {
-    match settled_listing(bytes, strips, work, settled, text) {
-        Ok(n) => n,
-        Err(refusal) => match refusal_line(&refusal, text) {
-            Ok(n) => n,
-            Err(_) => 0,
-        },
+impl From<Refusal> for Stop {
+    fn from(refusal: Refusal) -> Stop {
+        Stop::Refused(refusal)
     }
 }
 
-fn run(rt: &HostRuntime) -> anyhow::Result<()> {
-    let heap = rt.alloc();
-    let mut bytes = Vec::new(heap);
-    let mut input = rt.stdin().take(MOST_READ);
-    input.read_to_end(&mut bytes)?;
-    let mut strips = vec![in heap; <GateStrip as Strip>::blank(); STRIPS]?;
-    let mut work = vec![in heap; <GateStrip as Strip>::blank(); STRIPS]?;
+impl From<AllocError> for Stop {
+    fn from(error: AllocError) -> Stop {
+        Stop::Memory(error)
+    }
+}
+
+// Bytes that a rack over gate strips wrote, as a patch.
+fn written<'a>(bytes: &'a [u8], order: &ScanOrder) -> Patch<'a> {
+    let setup = Setup {
+        order: *order,
+        places: GateStrip::length(),
+        codes: Gates::codes(),
+    };
+    Patch::admit(bytes, &setup)
+}
+
+// The listing of the settled bytes of a patch: it is loaded into the first slot of a new rack, and written from there.
+fn settled_listing(heap: Global, bytes: &[u8]) -> Result<Vec<u8>, Stop> {
+    let mut strips = vec![in heap; GateStrip::blank(); STRIPS]?;
+    let mut work = vec![in heap; GateStrip::blank(); STRIPS]?;
     let mut settled = vec![in heap; 0u8; ENCODED_ROOM]?;
     let mut text = vec![in heap; 0u8; LISTING_ROOM]?;
-    let n = answer(&bytes, &mut strips, &mut work, &mut settled, &mut text);
-    let n = n.min(text.len());
-    rt.stdout().write_all(&text[0..n])?;
-    Ok(())
+    let mut order = ScanOrder::new();
+    order.arrange(&SCAN_LIST)?;
+    let mut rack = Rack::open(&order, &mut strips);
+    rack.load(0, bytes, &mut work)?;
+    let n = rack.write(0, &mut settled)?;
+    settled.truncate(n);
+    let n = listing(&written(&settled, &order), &mut text)?;
+    text.truncate(n);
+    Ok(text)
+}
+
+// The text to print.
+fn answer(heap: Global, bytes: &[u8]) -> Result<Vec<u8>, AllocError> {
+    settled_listing(heap, bytes).or_else(|stop| match stop {
+        Stop::Refused(refusal) => Ok(format!(in heap; "{refusal}\n")?.into_bytes()),
+        Stop::Memory(error) => Err(error),
+    })
 }
 
 fn main(rt: HostRuntime) -> anyhow::Result<()> {
-    run(&rt)
+    let heap = rt.alloc();
+    let mut bytes = Vec::new(heap);
+    rt.stdin().take(MOST_READ).read_to_end(&mut bytes)?;
+    let text = answer(heap, &bytes)?;
+    rt.stdout().write_all(&text)?;
+    Ok(())
 }

@@ -6,9 +6,6 @@ ghost use Rattle.patch.specs.Orders.{listed, Arranged};
 use super::ScanOrder;
 use crate::refusal::Refusal;
 
-// A place of the position table that no input has taken yet.
-const FREE: u8 = 24;
-
 impl ScanOrder {
     // Input 0 alone.
     pub fn new() -> Self
@@ -30,13 +27,13 @@ impl ScanOrder {
             return Err(Refusal::InputCount);
         }
         let mut inputs = [0; 24];
-        let mut positions = [FREE; 24];
-        for k in 0..n {
-            let v = list[k] as usize;
-            if v >= n || positions[v] != FREE {
+        inputs[..n].copy_from_slice(list);
+        let mut positions = [0; 24];
+        for (k, input) in list.iter().enumerate() {
+            let v = *input as usize;
+            if v >= n || list[..k].contains(input) {
                 return Err(Refusal::InputList);
             }
-            inputs[k] = v as u8;
             positions[v] = k as u8;
         }
         *self = ScanOrder {

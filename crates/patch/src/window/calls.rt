@@ -2,31 +2,26 @@
 ghost use Rattle.std.specs.Prelude.{◌≡◌, length};
 ghost use Rattle.patch.specs.Judging.{meant};
 ghost use Rattle.patch.specs.Records.{records, nth};
-ghost use Rattle.patch.specs.Windows.{seen, Admits};
+ghost use Rattle.patch.specs.Windows.{seen, records_left, Admits};
 
-use super::Patch;
+use super::{Patch, Records};
 use crate::check::examine;
 use crate::order::ScanOrder;
 use crate::record::{Record, read_record};
+use crate::setup::Setup;
 
 impl<'a> Patch<'a> {
     // The window on some bytes, or on no bytes if these fail the check.
-    pub fn admit(bytes: &'a [u8], order: &ScanOrder, places: usize, codes: u8) -> Patch<'a>
-        ensures { Admits bytes.now order.now places codes result }
+    pub fn admit(bytes: &'a [u8], setup: &Setup) -> Patch<'a>
+        ensures { Admits bytes.now setup.now result }
     {
-        match examine(bytes, order, places, codes) {
-            Ok(()) => Patch {
-                bytes,
-                order: *order,
-                places,
-                codes,
-            },
-            Err(_) => Patch {
-                bytes: &[],
-                order: *order,
-                places,
-                codes,
-            },
+        let shown: &'a [u8] = match examine(bytes, setup) {
+            Ok(()) => bytes,
+            Err(_) => &[],
+        };
+        Patch {
+            bytes: shown,
+            setup: *setup,
         }
     }
 
@@ -38,9 +33,9 @@ impl<'a> Patch<'a> {
 
     // The scan order that the bytes were checked for.
     pub fn order(&self) -> ScanOrder
-        ensures { result ≡ self.now.order }
+        ensures { result ≡ self.now.setup.order }
     {
-        self.order
+        self.setup.order
     }
 
     // How many records there are.
@@ -50,7 +45,15 @@ impl<'a> Patch<'a> {
         self.bytes.len() / 4
     }
 
+    // The records, first to last.
+    pub fn records(&self) -> Records<'a>
+        ensures { records_left result ≡ records (seen self.now) }
+    {
+        Records { bytes: self.bytes }
+    }
+
     // Record k, filler past the end.
+    // kept: its place is reckoned, since `nth` of the records, or of chunks, walks over all before it.
     pub fn record(&self, k: usize) -> Record
         ensures { meant result ≡ nth (records (seen self.now)) k }
     {

@@ -16,11 +16,9 @@ impl<'a, S: Strip> Rack<'a, S> {
     pub fn open(order: &ScanOrder, strips: &'a mut [S]) -> Rack<'a, S> {
         let desk = Desk {
             order: *order,
-            slots: [Slot {
-                count: 0,
-                inputs: [0; 31],
-            }; 16],
+            slots: [Slot::silent(); 16],
         };
+        // kept: tried as `fill`, which asks for a clone that cannot fail, and the trait Strip does not say that of one
         for s in strips.iter_mut() {
             *s = S::blank();
         }

@@ -1,26 +1,24 @@
-use Rattle.std.proofs.Common.{ℕ, ◌<◌, ◌∙◌, subst, arith}
+use Rattle.std.proofs.Common.{ℕ, ◌<◌, [], ◌++◌, length, map, subst, arith}
+use Rattle.patch.specs.Faults.{position}
+use Rattle.patch.specs.Orders.{listed}
 use Rattle.drafting.specs.Plan.{Placed}
-use Rattle.drafting.proofs.Bounding.{ordered}
 use Rattle.drafting.proofs.Laying.{moved_outlet}
+use Rattle.drafting.proofs.Positions.{first_at}
 use Rattle.drafting.proofs.Tied.{tied_means}
 use Rattle.drafting.proofs.from_forms.draft_tied.Goals as goal
 
-pub returns : goal.returns
-returns g c =
+pub returns-clause-means : goal.returns-clause-means
+returns-clause-means g c =
     let M = g.S.Codes.Scale.model in
     let code = g.S.Strip.code in
+    let s = c.args.order.now in
     let form = c.args.form.now in
-    let ps = c.form_positions.new.positions in
-    let plan = c.place_cells-plan.result in
-    let d = subst (λ (n : ℕ). Placed ps form.count n plan.cells plan.pos plan.place) c.count.ensures c.place_cells-plan.ensures in
-    let short : plan.cells < g.S.Strip.len = omega (arith, c.place_cells-plan.ensures.few, g.met.S.Strip.long) in
-    record {
-      within = short;
-      order = ordered _ _ _ _ _ _ c.place_cells-plan.ensures;
-      bounded = c.copy_tied.ensures.bounded;
-      outlet = c.moved-out.ensures.ends;
-      beyond = λ b k l. c.copy_tied.ensures.outside.after b k (omega arith) ∙ c.clear_rows.ensures.beyond b k l;
-      means = λ known fP.
-          tied_means M code c.args.order.now ps plan form d g.S.Strip.len short c.form_positions.ensures.here c.args.input c.args.on known _ _ c.clear_rows.ensures.off c.clear_rows.ensures.dif
-          c.copy_tied.ensures.dif c.copy_tied.ensures.off fP _ (moved_outlet M code c.args.order.now ps _ plan d form 0 _ _ (omega (arith, c.requires.strips)) (c.moved-out.ensures.row short));
-    }
+    let order = listed s in
+    let ps = map (position order) (form.inputs.now ++ []) in
+    let plan = c.plan_forms-plan.result in
+    let d : Placed ps (length form.inputs.now) (length order) plan.cells plan.pos plan.place =
+    subst (λ (k : ℕ). Placed ps k (length order) plan.cells plan.pos plan.place) (omega arith) c.plan_forms-plan.ensures in
+    let short : plan.cells < g.S.Strip.len = omega (arith, d.few, form.few, g.met.S.Strip.long) in
+    λ known fP.
+    tied_means M code s ps plan form d g.S.Strip.len short (first_at order form.inputs.now []) c.args.input c.args.on known _ _ c.clear_rows.ensures.off c.clear_rows.ensures.dif
+    c.copy_cells.ensures.dif c.copy_cells.ensures.off fP _ (moved_outlet M code s ps _ plan d form 0 _ _ (c.moved-out.ensures.row short))

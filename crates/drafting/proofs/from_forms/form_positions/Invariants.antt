@@ -1,7 +1,7 @@
-use Rattle.std.proofs.Common.{◌≡◌, length}
+use Rattle.std.proofs.Common.{◌≡◌, ℕ, ◌<◌, slice_index}
+use Rattle.patch.specs.Faults.{position}
 use Rattle.patch.specs.Orders.{listed}
-use Rattle.drafting.specs.Forms.{Positioned}
 use Rattle.drafting.proofs.from_forms.form_positions.Given as goal
 
 abbrev pub invariant-loop-j : goal.invariant-loop-j
-invariant-loop-j l = Positioned (listed l.order) l.inputs l.j l.from l.initial.positions l.positions × (length l.positions ≡ 128)
+invariant-loop-j l = (i : ℕ) → i < l.j → slice_index l.positions i ≡ position (listed l.order) (slice_index l.inputs i)

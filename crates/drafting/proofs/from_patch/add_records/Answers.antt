@@ -1,11 +1,11 @@
-use Rattle.std.proofs.Common.{◌≡◌, ℕ, ◌<◌, length, refl, ap, ◌∙◌, subst, arith}
+use Rattle.std.proofs.Common.{◌<◌, refl, ap, ◌∙◌, arith}
 use Rattle.elimination.specs.Lift.{some_code}
 use Rattle.patch.specs.Judging.{meant}
 use Rattle.patch.specs.Paths.{code}
 use Rattle.patch.specs.Records.{records}
 use Rattle.patch.specs.Windows.{seen}
 use Rattle.strip.specs.Row.{Row}
-use Rattle.drafting.specs.Arcs.{spots, Summed}
+use Rattle.drafting.specs.Arcs.{spots}
 use Rattle.drafting.proofs.Adding.{summed_none, summed_more}
 use Rattle.drafting.proofs.Declaring.{record_code}
 use Rattle.drafting.proofs.from_patch.add_records.Goals as goal
@@ -18,19 +18,13 @@ loop-k-init g c = record {
   beyond = λ b k l. refl;
 }
 
-pub add_record-requires : goal.add_record-requires
-add_record-requires g c =
+pub add_record-requires-clause-coded : goal.add_record-requires-clause-coded
+add_record-requires-clause-coded g c =
     let patch = c.args.patch.now in
-    let some : 0 < patch.codes = omega (arith, c.requires.codes, some_code g.S.Codes.Scale.model) in
-    let low : code (meant c.record.result) < patch.codes =
-    record_code patch.order patch.places patch.codes (seen patch) some patch.admitted c.loop-k.k (meant c.record.result) c.record.ensures in
-    record {
-      room = omega arith;
-      within = c.requires.within;
-      coded = omega (arith, low, c.requires.codes);
-      bounded = c.loop-k.invariant.bounded;
-      outlet = c.loop-k.invariant.outlet;
-    }
+    let some : 0 < patch.setup.codes = omega (arith, c.requires.codes, some_code g.S.Codes.Scale.model) in
+    let low : code (meant c.record.result) < patch.setup.codes =
+    record_code patch.setup.order patch.setup.places patch.setup.codes (seen patch) some patch.admitted c.loop-k.k (meant c.record.result) c.record.ensures in
+    omega (arith, low, c.requires.codes)
 
 pub loop-k-preserved : goal.loop-k-preserved
 loop-k-preserved g c = record {
@@ -41,15 +35,3 @@ loop-k-preserved g c = record {
       (meant c.record.result) c.record.ensures _ _ _ _ c.add_record.ensures.entered c.loop-k.invariant.summed;
   beyond = λ b k l. c.add_record.ensures.entered.beyond b k l ∙ c.loop-k.invariant.beyond b k l;
 }
-
-pub returns : goal.returns
-returns g c =
-    let e : c.loop-k.k ≡ length (records (seen c.args.patch.now)) = omega (arith, c.count-k-end.ensures, c.loop-k-test.false, c.loop-k.auto.k-end) in
-    record {
-      bounded = c.loop-k.invariant.bounded;
-      outlet = c.loop-k.invariant.outlet;
-      summed =
-          subst (λ (k : ℕ). Summed g.S.Codes.Scale.model g.S.Strip.code (spots c.args.plan.now) (records (seen c.args.patch.now)) k c.args.plan.now.cells c.loop-k.work (g.S.Strip.code c.loop-k.out)) e
-          c.loop-k.invariant.summed;
-      beyond = c.loop-k.invariant.beyond;
-    }

@@ -18,7 +18,7 @@ bounds-positions-count c =
     omega (
       arith,
       c.loop-k.invariant.0,
-      cell_below patch.order patch.places patch.codes (seen patch) c.requires.some patch.admitted c.loop-k.k c.in-Cell.input (
+      cell_below patch.setup.order patch.setup.places patch.setup.codes (seen patch) c.requires.some patch.admitted c.loop-k.k c.in-Cell.input (
           omega (arith, c.count-k-end.ensures)) c.in-Cell.ensures,
     )
 
@@ -28,7 +28,7 @@ overflow_add-count c =
     omega (
       arith,
       c.loop-k.invariant.0,
-      cell_below patch.order patch.places patch.codes (seen patch) c.requires.some patch.admitted c.loop-k.k c.in-Cell.input (
+      cell_below patch.setup.order patch.setup.places patch.setup.codes (seen patch) c.requires.some patch.admitted c.loop-k.k c.in-Cell.input (
           omega (arith, c.count-k-end.ensures)) c.in-Cell.ensures,
     )
 
@@ -37,10 +37,10 @@ loop-k-preserved c =
     let patch = c.args.patch.now in
     let rs : List Record = records (seen patch) in
     let k : ℕ = c.loop-k.k in
-    let order : List ℕ = listed patch.order in
+    let order : List ℕ = listed patch.setup.order in
     let before : List ℕ = declared [] (take k rs) in
     let l : k < length rs = omega (arith, c.count-k-end.ensures, c.loop-k-test.true) in
-    let few = λ (i : ℕ). cell_below patch.order patch.places patch.codes (seen patch) c.requires.some patch.admitted k i l in
+    let few = λ (i : ℕ). cell_below patch.setup.order patch.setup.places patch.setup.codes (seen patch) c.requires.some patch.admitted k i l in
     elim c.match-record.branch [
       | in-Cell w ↦ (
           let i : ℕ = w.in-Cell.input in
@@ -71,6 +71,6 @@ returns c =
     let count : c.loop-k.count ≡ length (declared [] rs) = c.loop-k.invariant.0 ∙ ap (λ (xs : List Record). length (declared [] xs)) all in
     record {
       count = count;
-      within = omega (arith, count, admitted_cells (listed patch.order) patch.places patch.codes (seen patch) c.requires.some patch.admitted);
-      positions = subst (λ (xs : List Record). Positions (listed patch.order) (declared [] xs) c.loop-k.positions) all c.loop-k.invariant.1;
+      within = omega (arith, count, admitted_cells (listed patch.setup.order) patch.setup.places patch.setup.codes (seen patch) c.requires.some patch.admitted);
+      positions = subst (λ (xs : List Record). Positions (listed patch.setup.order) (declared [] xs) c.loop-k.positions) all c.loop-k.invariant.1;
     }

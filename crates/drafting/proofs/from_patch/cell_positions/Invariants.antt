@@ -8,4 +8,4 @@ use Rattle.drafting.proofs.from_patch.cell_positions.Given as goal
 abbrev pub invariant-loop-k : goal.invariant-loop-k
 invariant-loop-k l =
     (l.count ≡ length (declared [] (take l.k (records (seen l.patch)))))
-    × Positions (listed l.patch.order) (declared [] (take l.k (records (seen l.patch)))) l.positions
+    × Positions (listed l.patch.setup.order) (declared [] (take l.k (records (seen l.patch)))) l.positions

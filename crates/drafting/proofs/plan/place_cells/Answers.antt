@@ -1,25 +1,20 @@
-use Rattle.std.proofs.Common.{◌≡◌, ℕ, refl, subst, arith}
-use Rattle.drafting.specs.Plan.{Placing, Placed}
+use Rattle.std.proofs.Common.{◌≡◌, ℕ, length, subst, arith}
+use Rattle.drafting.specs.Plan.{Placing}
 use Rattle.drafting.proofs.Planning.{started, next_position, finished}
 use Rattle.drafting.proofs.plan.place_cells.Goals as goal
 
-pub loop-p-init : goal.loop-p-init
-loop-p-init c = (started c.args.positions.now c.args.count c.args.n, refl)
+pub invariant_of-plan-clause-bound : goal.invariant_of-plan-clause-bound
+invariant_of-plan-clause-bound c = (started c.args.positions.now (length c.args.positions.now) c.args.n).bound
 
-pub place_position-cells-requires : goal.place_position-cells-requires
-place_position-cells-requires c = record { few = c.requires.few; before = c.loop-p.invariant.0 }
+pub loop-p-init : goal.loop-p-init
+loop-p-init c = started _ _ _
 
 pub loop-p-preserved : goal.loop-p-preserved
-loop-p-preserved c = (next_position _ _ _ _ _ _ _ c.place_position-cells.ensures, c.type_inv.place)
-
-pub invariant_of-result : goal.invariant_of-result
-invariant_of-result c =
-    let e : c.loop-p.p ≡ c.args.n = omega arith in
-    let d : Placed c.args.positions.now c.args.count c.args.n c.loop-p.cells c.loop-p.pos c.loop-p.place =
-    finished _ _ _ _ _ _ c.requires.few (subst (λ (p : ℕ). Placing c.args.positions.now c.args.count c.args.n p 0 c.loop-p.cells c.loop-p.pos c.loop-p.place) e c.loop-p.invariant.0) in
-    record { few = omega (arith, d.few, c.requires.few); wide = c.loop-p.invariant.1; bound = d.bound }
+loop-p-preserved c = next_position _ _ _ _ _ _ _ c.place_position.ensures
 
 pub returns : goal.returns
 returns c =
+    let ps = c.args.positions.now in
+    let plan = c.loop-p.plan in
     let e : c.loop-p.p ≡ c.args.n = omega arith in
-    finished _ _ _ _ _ _ c.requires.few (subst (λ (p : ℕ). Placing c.args.positions.now c.args.count c.args.n p 0 c.loop-p.cells c.loop-p.pos c.loop-p.place) e c.loop-p.invariant.0)
+    finished _ _ _ _ _ _ c.requires.few (subst (λ (p : ℕ). Placing ps (length ps) c.args.n p 0 plan.cells plan.pos plan.place) e c.loop-p.invariant)

@@ -1,28 +1,13 @@
-use Rattle.std.proofs.Common.{sym, ◌∙◌, arith}
-use native.Mathlib.Decide.{ℕ_discrete}
-use Rattle.elimination.proofs.Grids.{rows_read}
+use Rattle.std.proofs.Common.{rules}
+use borrow.Author.Tests.{tests}
+use Rattle.std.proofs.lemmas.Iterator.{cases_from_all, YieldsList-from_slice, YieldsList-from_zip}
+use Rattle.forms.proofs.Equal.{Equal, Other, Told, alike_if_equal, equal_if_alike}
 use Rattle.forms.proofs.alike.same_strips.Goals as goal
 
-pub returns-then-not-equal : goal.returns-then-not-equal
-returns-then-not-equal g c =
+pub returns : goal.returns
+returns g c =
     let code = g.S.Strip.code in
-    let xs = c.args.strips.now in
-    let k = c.loop-k.k in
-    record {
-      same = λ b. absurd b;
-      all = λ f. c.if-not-equal.ensures.all (
-          sym (rows_read code xs c.args.a k _ (omega (arith, c.requires.first)) c.index-strips-a.is) ∙ f k c.loop-k-test.true
-          ∙ rows_read code xs c.args.b k _ (omega (arith, c.requires.second)) c.index-strips-b.is);
-    }
-
-pub loop-k-preserved : goal.loop-k-preserved
-loop-k-preserved g c =
-    let code = g.S.Strip.code in
-    let xs = c.args.strips.now in
-    let k = c.loop-k.k in
-    λ j l. elim (ℕ_discrete j k) [
-      | yes e ↦ rw e (
-          rows_read code xs c.args.a k _ (omega (arith, c.requires.first)) c.index-strips-a.is ∙ c.if-not-equal.ensures.same tt
-          ∙ sym (rows_read code xs c.args.b k _ (omega (arith, c.requires.second)) c.index-strips-b.is))
-      | no n ↦ c.loop-k.invariant j (omega arith)
-    ]
+    let a = c.args.a.now in
+    let b = c.args.b.now in
+    let told : Told code a b c.all.result = cases_from_all c.all.new.self tt c.all.result (Equal code) (Other code) c.all.ensures.ran (YieldsList-from_zip (YieldsList-from_slice a (cc)) (YieldsList-from_slice b (cc))) (λ x q k. search (rules, tests)) (λ x q k. search (rules, tests)) in
+    record { same = alike_if_equal code a b _ told; all = equal_if_alike code a b _ told }

@@ -1,9 +1,10 @@
-use Rattle.std.proofs.Common.{sym, arith}
+use Rattle.std.proofs.Common.{rules, ◌≡◌, ◌≤◌, length, take, arith}
 use Rattle.elimination.specs.Rows.{Rows}
-use Rattle.patch.specs.Output.{Put}
-use Rattle.patch.proofs.Putting.{put_then, put_as, put_length}
+use Rattle.patch.proofs.Putting.{put_length}
+use Rattle.forms.specs.Continued.{Continued}
 use Rattle.forms.specs.Forms.{form_bytes}
-use Rattle.forms.proofs.Filling.{base_row}
+use Rattle.forms.proofs.Continuing.{then_put, as_put}
+use Rattle.forms.proofs.Filling.{row_read}
 use Rattle.forms.proofs.Writing.{joined, first_bytes}
 use Rattle.forms.proofs.encoding.encode.Goals as goal
 
@@ -12,12 +13,17 @@ returns g c =
     let code = g.S.Strip.code in
     let form = c.args.form.now in
     let xs = form.strips.now in
-    let base = form.base in
-    let count = form.count in
     let inputs = form.inputs.now in
-    let all : Put c.args.out.now 0 (form_bytes code xs base count inputs) c.put_arcs.new.out c.put_arcs.result = put_as (joined inputs (Rows code xs base) (Rows code xs base 0) count _ (sym (base_row code xs base _ (omega (arith, c.requires.strips))))) (put_then c.put_cells-cells.ensures.puts (put_then c.put_rows-rows.ensures.puts c.put_arcs.ensures.puts)) in
+    let n = length inputs in
+    let outlet = c.index-strips-0 in
+    let end = c.put_arcs.new.self in
+    let most : end.at ≤ 4096 = omega (arith, form.few, c.put_arcs.ensures.most, c.put_rows.ensures.most) in
+    let all : Continued _ (form_bytes code xs 0 n inputs) end =
+    as_put (joined inputs (Rows code xs 0) (Rows code xs 0 0) n _ (row_read code xs 0 outlet.result (omega (arith, form.wide)) outlet.is)) (then_put c.put_cells.ensures.puts (then_put c.put_rows.ensures.puts c.put_arcs.ensures.puts)) in
+    let bytes : take end.at end.out.now ≡ form_bytes code xs 0 n inputs = first_bytes c.args.out.now _ end.out.now end.at all.puts (omega (arith, most)) in
+    let name = all.same_output in
     record {
-      most = omega (arith, c.put_arcs.ensures.most, c.put_rows-rows.ensures.most);
-      long = put_length _ _ _ _ all;
-      bytes = first_bytes c.args.out.now _ c.put_arcs.new.out c.put_arcs.result all (omega (arith, c.put_arcs.ensures.most, c.put_rows-rows.ensures.most));
+      most = most;
+      long = put_length _ _ _ _ all.puts;
+      bytes = search (rules, bytes, name);
     }

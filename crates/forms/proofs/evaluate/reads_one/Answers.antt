@@ -1,11 +1,7 @@
-use Rattle.std.proofs.Common.{◌/◌, ◌%◌, ◌^◌, ◌<◌, ◌≤◌, eqb, sym, ap, ◌∙◌, arith, pow_mono}
+use Rattle.std.proofs.Common.{◌%◌, ◌^◌, ◌<◌, ◌≤◌, eqb, sym, ap, ◌∙◌, arith, pow_mono}
 use native.Mathlib.Nat.{div-eq_of_lt}
-use lib.Bits.{and_mask}
 use Rattle.std.proofs.lemmas.Bool.{le-ltb}
 use Rattle.forms.proofs.evaluate.reads_one.Goals as goal
-
-pub returns-then-input-lt64 : goal.returns-then-input-lt64
-returns-then-input-lt64 c = ap (λ z. eqb z 1) (and_mask (c.args.setting / 2 ^ c.args.input) 1)
 
 pub returns-else-input-lt64 : goal.returns-else-input-lt64
 returns-else-input-lt64 c =

@@ -1,6 +1,5 @@
-use Rattle.std.proofs.Common.{arith}
-use Rattle.forms.proofs.Filling.{one_more}
+use Rattle.forms.proofs.Filling.{blank_filled}
 use Rattle.forms.proofs.keep.keep_silent.Goals as goal
 
-pub loop-k-preserved : goal.loop-k-preserved
-loop-k-preserved g c = one_more g.S.Strip.code c.loop-k.k _ c.loop-k.strips c.args.base _ _ (omega arith) c.loop-k.invariant c.blank.ensures
+pub returns : goal.returns
+returns g c = blank_filled g.S.Strip.code c.args.slot.now c.copy_from_slice.new.self c.blank.result c.requires.slot c.copy_from_slice.ensures.after c.blank.ensures

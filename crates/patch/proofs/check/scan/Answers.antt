@@ -1,52 +1,39 @@
-use Rattle.std.proofs.Common.{ℕ, List, [], take, sym, refl, ap, ◌∙◌, subst, arith}
-use Rattle.std.proofs.lemmas.List.{at_drop_all}
-use Rattle.patch.specs.Records.{records, declare, declared}
-use Rattle.patch.specs.Faults.{check_from}
+use Rattle.std.proofs.Common.{refl, ◌∙◌, arith}
 use Rattle.patch.specs.Orders.{listed}
-use Rattle.patch.specs.Judging.{meant, Holds}
-use Rattle.patch.proofs.Checked.{records_length}
-use Rattle.patch.proofs.Judged.{holds_none, holds_more}
-use Rattle.patch.proofs.Scanning.{no_cell, next_cells, goes_on, stops}
-use Rattle.patch.proofs.check.scan.Goals.{in-Cell, in_default}
+use Rattle.patch.proofs.Scanning.{scan_starts, scan_ends, scan_stops, scan_past, scan_cell}
 use Rattle.patch.proofs.check.scan.Goals as goal
 
 pub loop-k-init : goal.loop-k-init
-loop-k-init c = (omega arith, holds_none c.none-cells.result c.none-cells.ensures.0 c.none-cells.ensures.1, refl)
+loop-k-init c =
+    let setup = c.args.setup.now in
+    rw (c.into_iter-k-iterator.ensures.into_iter_gives, c.enumerate-k-items.ensures.source, c.enumerate-k-items.ensures.count, c.chunks_exact.ensures.rest, c.chunks_exact.ensures.size) (
+      refl,
+      scan_starts (listed setup.order) setup.places setup.codes c.args.bytes.now c.none-cells.result c.none-cells.ensures.0 c.none-cells.ensures.1,
+    )
+
+pub declare-requires : goal.declare-requires
+declare-requires c = let S = c.loop-k.invariant.1 in omega (arith, S.few, S.left, c.in-Some.ensures.steps.3)
+
+pub loop-k-preserved-in-Cell : goal.loop-k-preserved-in-Cell
+loop-k-preserved-in-Cell c =
+    let step = c.in-Some.ensures.steps in
+    let long = step.0.1.1 ∙ c.loop-k.invariant.0 in
+    let next = scan_cell c.loop-k.invariant.1 c.in-Some.record.now _ long step.0.1.0 c.check_record.result (rw step.1 at c.check_record.ensures)
+    c.in-Ok.record c.in-Cell.input c.declare.new.self c.in-Ok.is c.in-Cell.is c.declare.ensures.counts c.declare.ensures.keeps in
+    (step.0.0 ∙ c.loop-k.invariant.0, rw step.2 next)
 
 pub loop-k-preserved : goal.loop-k-preserved
 loop-k-preserved c =
-    let bytes : List ℕ = c.args.bytes.now in
-    let order = listed c.args.order.now in
-    let k : ℕ = c.loop-k.k in
-    let inv = c.loop-k.invariant in
-    let next = next_cells order c.args.places c.args.codes bytes k c.loop-k-test.true c.loop-k.cells inv.1 c.check_record.result c.check_record.ensures c.in-Ok.record c.in-Ok.is in
-    let on = goes_on order c.args.places c.args.codes bytes k c.loop-k-test.true c.loop-k.cells inv.1 c.check_record.result c.check_record.ensures c.in-Ok.record c.in-Ok.is in
-    let P : List ℕ → Type 0 = λ cs. Holds c.match-record.cells cs in
-    elim c.match-record.branch [
-      | in-Cell w ↦ (
-        omega (arith, w.declare.ensures.counts, ap (λ s. s.count) w.cells-is),
-        subst P (sym (next ∙ ap (λ e. declare (declared [] (take k (records bytes))) (meant e)) w.in-Cell.is)) (
-            holds_more c.loop-k.cells c.match-record.cells (declared [] (take k (records bytes))) w.in-Cell.input inv.1 (ap (λ s. s.count) w.cells-is ∙ w.declare.ensures.counts) (
-            ap (λ s. s.inputs) w.cells-is ∙ w.declare.ensures.keeps)),
-        on ∙ inv.2,
-      )
-      | in_default w ↦ (
-        omega (arith, ap (λ s. s.count) w.cells-is),
-        rw (next ∙ no_cell (declared [] (take k (records bytes))) c.in-Ok.record w.in_default.not-Cell, w.cells-is) inv.1,
-        on ∙ inv.2,
-      )
-    ]
+    let step = c.in-Some.ensures.steps in
+    let long = step.0.1.1 ∙ c.loop-k.invariant.0 in
+    let next = scan_past c.loop-k.invariant.1 c.in-Some.record.now _ long step.0.1.0 c.check_record.result (rw step.1 at c.check_record.ensures) c.in-Ok.record c.in-Ok.is c.in_default.not-Cell in
+    (step.0.0 ∙ c.loop-k.invariant.0, rw step.2 next)
 
 pub returns-in-Err : goal.returns-in-Err
 returns-in-Err c =
-    let bytes : List ℕ = c.args.bytes.now in
-    sym c.loop-k.invariant.2
-    ∙ stops (listed c.args.order.now) c.args.places c.args.codes bytes c.loop-k.k c.loop-k-test.true c.loop-k.cells c.loop-k.invariant.1 c.check_record.result c.check_record.ensures c.in-Err.refusal c.in-Err.is
+    let step = c.in-Some.ensures.steps in
+    let long = step.0.1.1 ∙ c.loop-k.invariant.0 in
+    scan_stops c.loop-k.invariant.1 c.in-Some.record.now _ long step.0.1.0 c.check_record.result (rw step.1 at c.check_record.ensures) c.in-Err.refusal c.in-Err.is
 
-pub returns-after-loop-k : goal.returns-after-loop-k
-returns-after-loop-k c =
-    let bytes : List ℕ = c.args.bytes.now in
-    let k : ℕ = c.loop-k.k in
-    sym c.loop-k.invariant.2
-    ∙ at_drop_all (check_from (listed c.args.order.now) c.args.places c.args.codes k (declared [] (take k (records bytes)))) (records bytes) k (
-    omega (arith, records_length bytes, c.loop-k-test.false))
+pub returns-in-None : goal.returns-in-None
+returns-in-None c = scan_ends c.loop-k.invariant.1 (omega (arith, c.in-None.ensures.steps.0.1.0, c.loop-k.invariant.0))

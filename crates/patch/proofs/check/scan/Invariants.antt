@@ -1,12 +1,11 @@
-use Rattle.std.proofs.Common.{◌≡◌, ◌≤◌, [], take, drop}
-use Rattle.patch.specs.Records.{records, declared}
-use Rattle.patch.specs.Faults.{check_from}
+use Rattle.std.proofs.Common.{◌≡◌}
+use Rattle.std.specs.Iterator.Adapters.{enumerate_source, enumerate_count}
+use Rattle.std.specs.Slice.Iter.{chunks_exact_rest, chunks_exact_size}
 use Rattle.patch.specs.Orders.{listed}
-use Rattle.patch.specs.Judging.{Holds}
+use Rattle.patch.proofs.Scanning.{Scanned}
 use Rattle.patch.proofs.check.scan.Given as goal
 
 abbrev pub invariant-loop-k : goal.invariant-loop-k
 invariant-loop-k l =
-    (l.cells.count ≤ l.k) × Holds l.cells (declared [] (take l.k (records l.bytes)))
-    × (check_from (listed l.order) l.places l.codes l.k (declared [] (take l.k (records l.bytes))) (drop l.k (records l.bytes))
-    ≡ check_from (listed l.order) l.places l.codes 0 [] (records l.bytes))
+    (chunks_exact_size (enumerate_source l.k-iterator) ≡ 4)
+    × Scanned (listed l.setup.order) l.setup.places l.setup.codes l.bytes l.cells (enumerate_count l.k-iterator) (chunks_exact_rest (enumerate_source l.k-iterator))

@@ -6,8 +6,8 @@ use Rattle.patch.proofs.theorems.windows_show_patches.Goals as goal
 pub returns : goal.returns
 returns c = record {
   shown = λ w. (
-    admitted_patch (listed w.order) w.places w.codes (seen w) w.admitted,
-    admitted_short (listed w.order) w.places w.codes (seen w) w.admitted,
+    admitted_patch (listed w.setup.order) w.setup.places w.setup.codes (seen w) w.admitted,
+    admitted_short (listed w.setup.order) w.setup.places w.setup.codes (seen w) w.admitted,
   );
   whole = shows_all;
   admitted = admits_patches;
