@@ -23,7 +23,7 @@ module _ (m : ℕ) (R R' : ℕ → Row) (I : Inside (m + 1) R) (h : ℕ) where
     | inr other ↦ at (s.rest k other) p ∙ I k p l b
   ]
 
-module _ {S : Type 0} (code : S → Row) (w w' : List S) (m h : ℕ) (few : m ≤ 127) (low : h ≤ m) (B : Bounded code w m) where
+module _ {S : Type 0} (code : S → Row) (w w' : List S) (m h : ℕ) (few : m < 128) (low : h ≤ m) (B : Bounded code w m) where
   pub dif_stored : (f : Row) → RowSet (Rows code w 128) h f (Rows code w' 128) → ((n : ℕ) → h < n → Outside code w 128 n w') → Ends m f → Bounded code w' m
   dif_stored f s o e = record {
     off = λ k p l b. at ((o 128 (omega arith)).before 0 k (omega arith)) p ∙ B.off k p l b;
@@ -36,18 +36,16 @@ module _ {S : Type 0} (code : S → Row) (w w' : List S) (m h : ℕ) (few : m �
     dif = λ k p l b. at ((o 128 (omega arith)).after 128 k (omega arith)) p ∙ B.dif k p l b;
   }
 
-  pub dif_added : (M : ScaleModel) (len place c : ℕ) → AddedIn M len (Rows code w 128) h place c (Rows code w' 128) → ((n : ℕ) → h < n → Outside code w 128 n w') → place ≤ m
-      → Bounded code w' m
+  pub dif_added : (M : ScaleModel) (len place c : ℕ) → AddedIn M len (Rows code w 128) h place c (Rows code w' 128) → Outside code w 128 (m + 1) w' → place ≤ m → Bounded code w' m
   dif_added M len place c s o l = record {
-    off = λ k p a b. at ((o 128 (omega arith)).before 0 k (omega arith)) p ∙ B.off k p a b;
+    off = λ k p a b. at (o.before 0 k (omega arith)) p ∙ B.off k p a b;
     dif = inside_added m (Rows code w 128) (Rows code w' 128) B.dif h M len place c s l;
   }
 
-  pub off_added : (M : ScaleModel) (len place c : ℕ) → AddedIn M len (Rows code w 0) h place c (Rows code w' 0) → ((n : ℕ) → h < n → Outside code w 0 n w') → place ≤ m
-      → Bounded code w' m
+  pub off_added : (M : ScaleModel) (len place c : ℕ) → AddedIn M len (Rows code w 0) h place c (Rows code w' 0) → Outside code w 0 (m + 1) w' → place ≤ m → Bounded code w' m
   off_added M len place c s o l = record {
     off = inside_added m (Rows code w 0) (Rows code w' 0) B.off h M len place c s l;
-    dif = λ k p a b. at ((o 128 (omega arith)).after 128 k (omega arith)) p ∙ B.dif k p a b;
+    dif = λ k p a b. at (o.after 128 k (omega arith)) p ∙ B.dif k p a b;
   }
 
 -- a sum of rows that hold nothing past m holds nothing past m

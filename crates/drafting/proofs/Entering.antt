@@ -1,5 +1,5 @@
 -- One record entered into the rows of a draft: what is added to a row, as an element of the field.
-use Rattle.std.proofs.Common.{◌≡◌, ℕ, ◌<◌, List, sym, refl, ap, ◌∙◌, subst, ap₂, arith}
+use Rattle.std.proofs.Common.{◌≡◌, ℕ, ◌+◌, ◌<◌, List, sym, refl, ap, ◌∙◌, ap₂, arith}
 use mathlib.Core.Logic.{ite}
 use native.Mathlib.Decide.{ℕ_discrete}
 use Rattle.linear.specs.Codes.{code_eq, coded, codes}
@@ -13,8 +13,7 @@ use Rattle.elimination.specs.Lift.{Element, scalars, some_code, up, Grid}
 use Rattle.elimination.specs.Rows.{Rows, Outside}
 use Rattle.elimination.proofs.Grids.{rows_coded}
 use Rattle.elimination.proofs.Lifting.{up_plus}
-use Rattle.patch.specs.Paths.{code as code_of_record}
-use Rattle.patch.specs.Records.{Record, off, on, outlet}
+use Rattle.patch.specs.Records.{off, on, outlet}
 use Rattle.drafting.specs.Arcs.{only, Entered}
 use Rattle.drafting.specs.Drafts.{AddedAt, AddedIn}
 
@@ -74,71 +73,38 @@ module _ (M : ScaleModel) where
     all_coded : (w : List S) (base j p : ℕ) → Rows code w base j p < M.q
     all_coded w base j p = rows_coded code M.q (some_code M) law w base j p
 
-    pub enter_outlet : (t c : ℕ) (w : List S) (o o' : Row) → AddedAt M len o (ρ t) c o' → ρ t < len → c < M.q → ((p : ℕ) → o p < M.q) → Entered M code ρ (outlet t c) w o w o'
-    enter_outlet t c w o o' a l k below = record {
+    pub entered_outlet : (t c : ℕ) (w : List S) (o o' : Row) → AddedAt M len o (ρ t) c o' → ρ t < len → c < M.q → ((p : ℕ) → o p < M.q) → Entered M code ρ (outlet t c) w o w o'
+    entered_outlet t c w o o' a l k below = record {
       off = λ h u l. still _ _ _ _ refl;
       dif = λ h u l. still _ _ _ _ no_dif;
       out = added_at len o (ρ t) c o' a l k below;
-      beyond = λ b k l. refl;
     }
 
-    module _ (f t c : ℕ) (low : ρ f < 128) (to : ρ t < len) (few : c < M.q) (o : Row) where
-      pub enter_on : (w w' : List S) → AddedIn M len (Rows code w 128) (ρ f) (ρ t) c (Rows code w' 128) → ((n : ℕ) → ρ f < n → Outside code w 128 n w')
+    module _ (m : ℕ) (low : m < 128) (f t c : ℕ) (to : ρ t < len) (few : c < M.q) (o : Row) where
+      pub entered_on : (w w' : List S) → AddedIn M len (Rows code w 128) (ρ f) (ρ t) c (Rows code w' 128) → Outside code w 128 (m + 1) w'
           → Entered M code ρ (on f t c) w o w' o
-      enter_on w w' a out = record {
-        off = λ h u l. ap (λ (r : Row). up M (r u)) ((out 128 low).before 0 h (omega arith)) ∙ still _ _ _ _ refl;
+      entered_on w w' a out = record {
+        off = λ h u l. ap (λ (r : Row). up M (r u)) (out.before 0 h (omega arith)) ∙ still _ _ _ _ refl;
         dif = λ h u l.
             added_in len (Rows code w 128) (ρ f) (ρ t) c (Rows code w' 128) a to few (all_coded w 128) h u
             ∙ ap (λ x. (scalars M).plus (Grid M code w 128 h u) (only M (ρ t) u x)) (on_dif (only M (ρ f) h (up M c)));
         out = λ u. still _ _ _ _ refl;
-        beyond = λ b k l. (out 128 low).after b k (omega arith);
       }
 
-      pub enter_off : (w w₁ w₂ : List S) (d : ℕ) → d ≡ M.neg c
-          → AddedIn M len (Rows code w 0) (ρ f) (ρ t) c (Rows code w₁ 0) → ((n : ℕ) → ρ f < n → Outside code w 0 n w₁)
-          → AddedIn M len (Rows code w₁ 128) (ρ f) (ρ t) d (Rows code w₂ 128) → ((n : ℕ) → ρ f < n → Outside code w₁ 128 n w₂)
+      pub entered_off : (w w₁ w₂ : List S) (d : ℕ) → d ≡ at_code M.q M.neg c
+          → AddedIn M len (Rows code w 0) (ρ f) (ρ t) c (Rows code w₁ 0) → Outside code w 0 (m + 1) w₁
+          → AddedIn M len (Rows code w₁ 128) (ρ f) (ρ t) d (Rows code w₂ 128) → Outside code w₁ 128 (m + 1) w₂
           → Entered M code ρ (off f t c) w o w₂ o
-      enter_off w w₁ w₂ d neg a₁ out₁ a₂ out₂ = record {
+      entered_off w w₁ w₂ d negative a₁ out₁ a₂ out₂ = record {
         off = λ h u l.
-            ap (λ (r : Row). up M (r u)) ((out₂ 128 low).before 0 h (omega arith))
+            ap (λ (r : Row). up M (r u)) (out₂.before 0 h (omega arith))
             ∙ added_in len (Rows code w 0) (ρ f) (ρ t) c (Rows code w₁ 0) a₁ to few (all_coded w 0) h u;
         dif = λ h u l.
             added_in len (Rows code w₁ 128) (ρ f) (ρ t) d (Rows code w₂ 128) a₂ to (rw neg (M.field.neg_code c few)) (all_coded w₁ 128) h u
-            ∙ ap₂ (λ (r : Row) x. (scalars M).plus (up M (r u)) (only M (ρ t) u x)) ((out₁ 128 low).after 128 h (omega arith)) (
+            ∙ ap₂ (λ (r : Row) x. (scalars M).plus (up M (r u)) (only M (ρ t) u x)) (out₁.after 128 h (omega arith)) (
             ap (λ (e : ℕ). only M (ρ f) h (up M e)) neg ∙ off_dif (ρ f) h c few);
         out = λ u. still _ _ _ _ refl;
-        beyond = λ b k l. (out₂ 128 low).after b k (omega arith) ∙ (out₁ 128 low).after b k (omega arith);
       }
-
-    -- the same, for any record that is such an arc, and places that are where its cells stand
-    module _ (r : Record) (small : code_of_record r < M.q) (v : ℕ) (inside : v < len) where
-      pub entered_outlet : (t c : ℕ) → r ≡ outlet t c → v ≡ ρ t → (w : List S) (o o' : Row) → AddedAt M len o v c o' → ((p : ℕ) → o p < M.q) → Entered M code ρ r w o w o'
-      entered_outlet t c is v_is w o o' a below =
-          subst (λ (x : Record). Entered M code ρ x w o w o') (sym is) (
-          enter_outlet t c w o o' (subst (λ (p : ℕ). AddedAt M len o p c o') v_is a) (rw v_is at inside) (subst (λ (x : Record). code_of_record x < M.q) is small) below)
-
-      module _ (h : ℕ) (low : h < 128) (o : Row) (f t c : ℕ) (h_is : h ≡ ρ f) (v_is : v ≡ ρ t) where
-        abbrev Adds : List S → ℕ → ℕ → List S → Type 0
-        Adds w base e w' = AddedIn M len (Rows code w base) h v e (Rows code w' base) × ((n : ℕ) → h < n → Outside code w base n w')
-
-        adds : (w : List S) (base e : ℕ) (w' : List S) → Adds w base e w'
-            → AddedIn M len (Rows code w base) (ρ f) (ρ t) e (Rows code w' base) × ((n : ℕ) → ρ f < n → Outside code w base n w')
-        adds w base e w' a = (
-          subst (λ (p : ℕ). AddedIn M len (Rows code w base) (ρ f) p e (Rows code w' base)) v_is (
-              subst (λ (p : ℕ). AddedIn M len (Rows code w base) p v e (Rows code w' base)) h_is a.0),
-          λ n l. a.1 n (omega arith),
-        )
-
-        pub entered_on : r ≡ on f t c → (w w' : List S) → Adds w 128 c w' → Entered M code ρ r w o w' o
-        entered_on is w w' a =
-            let b = adds w 128 c w' a in
-            subst (λ (x : Record). Entered M code ρ x w o w' o) (sym is) (
-            enter_on f t c (omega arith) (omega arith) (subst (λ (x : Record). code_of_record x < M.q) is small) o w w' b.0 b.1)
-
-        pub entered_off : r ≡ off f t c → (w w₁ w₂ : List S) (d : ℕ) → d ≡ at_code M.q M.neg c → Adds w 0 c w₁ → Adds w₁ 128 d w₂ → Entered M code ρ r w o w₂ o
-        entered_off is w w₁ w₂ d neg a₁ a₂ =
-            let few : c < M.q = subst (λ (x : Record). code_of_record x < M.q) is small in
-            let b₁ = adds w 0 c w₁ a₁ in
-            let b₂ = adds w₁ 128 d w₂ a₂ in
-            subst (λ (x : Record). Entered M code ρ x w o w₂ o) (sym is) (
-            enter_off f t c (omega arith) (omega arith) few o w w₁ w₂ d (neg ∙ cond-true _ _ _ (lt-ltb c M.q few)) b₁.0 b₁.1 b₂.0 b₂.1)
+        where
+          neg : d ≡ M.neg c
+          neg = negative ∙ cond-true _ _ _ (lt-ltb c M.q few)

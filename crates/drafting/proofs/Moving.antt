@@ -1,8 +1,9 @@
 -- A row moved to other places, one code after the other.
-use Rattle.std.proofs.Common.{◌≡◌, ℕ, suc, ◌+◌, ◌<◌, ◌≤◌, eqb, List, length, get_or, sym, refl, ap, ◌∙◌, ap₂, arith}
+use Rattle.std.proofs.Common.{◌≡◌, ℕ, suc, ◌+◌, ◌-◌, ◌<◌, ◌≤◌, cond, ◌||◌, eqb, ltb, List, length, get_or, drop, get_or-take, get_or-drop, length-take, length-drop, sym, refl, ap, ◌∙◌, ap₂, arith}
 use mathlib.Core.Logic.{ite}
 use native.Mathlib.Decide.{ℕ_discrete}
-use Rattle.std.proofs.lemmas.Bool.{cond_both}
+use Rattle.std.proofs.lemmas.Bool.{cond_both, ne_eqb, le-ltb}
+use Rattle.std.proofs.lemmas.List.{take_all}
 use Rattle.linear.specs.Field.{Field}
 use Rattle.linear.specs.Sums.{fold}
 use Rattle.linear.proofs.Sums.{sum_cong, sum_zero}
@@ -13,9 +14,11 @@ use Rattle.elimination.proofs.Grids.{rows_read}
 use Rattle.scale.specs.Model.{ScaleModel}
 use Rattle.strip.specs.Row.{Row}
 use Rattle.drafting.specs.declared.form.FormView.{FormView}
+use Rattle.drafting.specs.declared.part.Part.{Part}
 use Rattle.drafting.specs.declared.plan.Plan.{Plan}
+use Rattle.drafting.specs.Arcs.{spots}
 use Rattle.drafting.specs.Drafts.{AddedAt}
-use Rattle.drafting.specs.Forms.{place_of}
+use Rattle.drafting.specs.Forms.{place_of, Lends}
 use Rattle.drafting.proofs.Entering.{up_more}
 
 -- how many cells a form has
@@ -57,6 +60,23 @@ module _ (M : ScaleModel) (ρ : ℕ → ℕ) where
           ∙ ap₂ (scalars M).plus (ap (λ (p : ℕ). up M (f p)) (is ∙ sym e) ∙ before u) (ap (up M) x_is)
       go (no e) = ap (up M) (A.rest u (λ h. e (h ∙ is))) ∙ before u ∙ sym ((scalars M).plus_zero _)
 
--- no place of a form is past the steady place
-pub place_low : (plan : Plan) (from t : ℕ) → place_of plan from t ≤ plan.cells
-place_low plan from t = cond_both (eqb t 0) _ _ (λ (x : ℕ). x ≤ plan.cells) (λ _. omega arith) (λ _. plan.bound _)
+-- no place is past the steady place
+pub place_low : (part : Part) (t : ℕ) → place_of part t ≤ part.steady
+place_low part t = cond_both (eqb t 0 || ltb (length part.places.now) t) _ _ (λ (x : ℕ). x ≤ part.steady) (λ _. omega arith) (λ _. part.bound _)
+
+pub spot_low : (plan : Plan) (f : ℕ) → spots plan f ≤ plan.places.cells
+spot_low plan f = cond_both (eqb f 0 || ltb 128 f) _ _ (λ (x : ℕ). x ≤ plan.places.cells) (λ _. omega arith) (λ _. plan.bound _)
+
+-- the place that a part gives to one of its cells is the plan's
+pub place_lent : (plan : Plan) (from count : ℕ) (part : Part) → Lends plan from count part → (t : ℕ) → 0 < t → t ≤ count
+    → place_of part t ≡ get_or plan.place (from + t - 1) 0
+place_lent plan from count part lent t some few =
+    let size : length part.places.now ≡ count = ap length lent.places ∙ grind (arith, lent.within, length-take, length-drop) in
+    let there : from + (t - 1) ≡ from + t - 1 = omega arith in
+    ap₂ (λ a b. cond (a || b) part.steady (get_or part.places.now (t - 1) 0)) (ne_eqb t 0 (λ e. omega arith)) (le-ltb (length part.places.now) t (omega arith))
+    ∙ ap (λ (l : List ℕ). get_or l (t - 1) 0) lent.places ∙ get_or-take count (drop from plan.place) (t - 1) 0 (omega arith) ∙ get_or-drop from plan.place (t - 1) 0
+    ∙ ap (λ (i : ℕ). get_or plan.place i 0) there
+
+pub spot_lent : (plan : Plan) (part : Part) → Lends plan 0 128 part → length plan.place ≡ 128 → (f : ℕ) → place_of part f ≡ spots plan f
+spot_lent plan part lent long f =
+    let whole : part.places.now ≡ plan.place = lent.places ∙ take_all 128 plan.place (omega (arith, long)) in rw (lent.steady, whole, long) refl

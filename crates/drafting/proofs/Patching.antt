@@ -115,32 +115,32 @@ module _ (M : ScaleModel) (s : ScanOrder) (bytes : List ℕ) (P : Patch (listed 
           )
     ]
 
-  module _ {S : Type 0} (code : S → Row) (w : List S) (d : Draft S) (ps place : List ℕ) (read : Positions (listed s) (declared [] (records bytes)) ps) (plan : Placed ps C n d.cells d.pos place) (few : C < 128)
-      (sums : Summed M code (spot d.cells place) (records bytes) (length (records bytes)) d.cells w (code d.out)) where
+  module _ {S : Type 0} (code : S → Row) (w : List S) (d : Draft S) (ps place : List ℕ) (read : Positions (listed s) (declared [] (records bytes)) ps) (plan : Placed ps C n d.places.cells d.places.pos place) (few : C < 128)
+      (sums : Summed M code (spot d.places.cells place) (records bytes) (length (records bytes)) d.places.cells w (code d.out)) where
     abbrev σ : ℕ → ℕ
-    σ = spot d.cells place
+    σ = spot d.places.cells place
 
     embeds : Embeds (scalars M) E (diagram_of M code w d) σ
     embeds = record {
-      inside = λ t h. omega (arith, inside ps d.cells d.pos place read plan few t (omega arith));
-      pos = λ t h. reads_pos ps d.cells d.pos place read plan few t (omega arith);
+      inside = λ t h. omega (arith, inside ps d.places.cells d.places.pos place read plan few t (omega arith));
+      pos = λ t h. reads_pos ps d.places.cells d.places.pos place read plan few t (omega arith);
       off = λ t u h k.
-          sums.off (σ t) u (inside ps d.cells d.pos place read plan few t (omega arith))
-          ∙ sum_off M (listed s) (declared [] (records bytes)) (records bytes) A.fine σ (apart ps d.cells d.pos place read plan few) t u (omega arith)
+          sums.off (σ t) u (inside ps d.places.cells d.places.pos place read plan few t (omega arith))
+          ∙ sum_off M (listed s) (declared [] (records bytes)) (records bytes) A.fine σ (apart ps d.places.cells d.places.pos place read plan few) t u (omega arith)
           ∙ along_same (scalars M) σ (suc C) _ _ (λ v l. code_is _) u;
       dif = λ t u h k.
-          sums.dif (σ t) u (inside ps d.cells d.pos place read plan few t (omega arith))
-          ∙ sum_dif M (listed s) (declared [] (records bytes)) (records bytes) A.fine σ (apart ps d.cells d.pos place read plan few) t u (omega arith)
+          sums.dif (σ t) u (inside ps d.places.cells d.places.pos place read plan few t (omega arith))
+          ∙ sum_dif M (listed s) (declared [] (records bytes)) (records bytes) A.fine σ (apart ps d.places.cells d.places.pos place read plan few) t u (omega arith)
           ∙ along_same (scalars M) σ (suc C) _ _ (λ v l. code_is _) u;
     }
 
     outlet : (u : ℕ) → up M (code d.out u) ≡ along (scalars M) (suc C) σ E.out u
     outlet u =
-        sums.out u ∙ sum_out M (listed s) (declared [] (records bytes)) (records bytes) A.fine σ (apart ps d.cells d.pos place read plan few) u
+        sums.out u ∙ sum_out M (listed s) (declared [] (records bytes)) (records bytes) A.fine σ (apart ps d.places.cells d.places.pos place read plan few) u
         ∙ along_same (scalars M) σ (suc C) _ _ (λ v l. code_is _) u
 
     draft_formed : Formed (scalars M) n (diagram_of M code w d)
-    draft_formed = moved_formed (scalars M) n E (diagram_of M code w d) σ formed embeds (λ t h. stands ps d.cells d.pos place read plan few t (omega arith))
+    draft_formed = moved_formed (scalars M) n E (diagram_of M code w d) σ formed embeds (λ t h. stands ps d.places.cells d.places.pos place read plan few t (omega arith))
 
     same_rule : (a : Assignment) → rule (scalars M) n (diagram_of M code w d) a ≡ patch_rule M s bytes a
     unfolding scalars

@@ -2,6 +2,7 @@
 use Rattle.std.proofs.Common.{◌≡◌, ℕ, zero, suc, ◌+◌, ◌-◌, ◌<◌, ◌≤◌, Bool, true, false, cond, eqb, ltb, ◌≢◌, List, length, length-take, get_or, take, set, replicate, sym, refl, ap, ◌∙◌, subst, inl, inr, arith, get_or-set_other, get_or-set_same}
 use Rattle.std.proofs.lemmas.Bool.{cond-true, cond-false, eq-eqb, ne_eqb, lt-ltb, le-ltb, cases_eq, cases_order}
 use Rattle.std.proofs.lemmas.List.{get_or-replicate}
+use Rattle.settling.specs.Draft.{Ordered}
 use Rattle.drafting.specs.Plan.{Placed, earlier, alike, Done, Placing}
 
 abbrev one : Bool → ℕ
@@ -161,6 +162,43 @@ module _ (ps : List ℕ) (k n p c m : ℕ) (pos place : List ℕ) (S : Placing p
 
       more : (t : ℕ) → (i : ℕ) × (i < k) × Done ps p c i × (get_or place i 0 ≡ t) → (i : ℕ) × (i < k) × Done ps p (c + 1) i × (get_or (set place c m) i 0 ≡ t)
       more t (i, li, d, s) = (i, li, done_more ps p c i d, there i (other i d) ∙ s)
+
+  -- and the places are in order
+  pub placed_order : c < k → k ≤ 127 → length pos ≡ 128 → get_or ps c 0 ≡ p → p < n → Ordered (m + 1) (set pos m p)
+  placed_order l few long e low = record {
+    cells = λ t h. omega (arith, below t h, next);
+    rising = λ t u a b. elim (cases_eq u (m + 1)) [
+      | inl s ↦ elim (cases_eq t (m + 1)) [
+        | inl z ↦ omega (arith, ap (λ x. get_or (set pos m p) x 0) (z ∙ sym s))
+        | inr z ↦ omega (arith, below t (omega arith), next, ap (λ x. get_or (set pos m p) x 0) s)
+      ]
+      | inr s ↦ step t u a (omega arith)
+    ];
+  }
+    where
+      few_are : m < k
+      few_are = room l e
+
+      next : get_or (set pos m p) (m + 1) 0 ≡ n
+      next = get_or-set_other pos m (m + 1) p 0 (λ z. omega arith) ∙ S.rest (m + 1) (omega arith) (omega (arith, few_are))
+
+      here : get_or (set pos m p) m 0 ≡ p
+      here = get_or-set_same pos m p 0 (omega (arith, few_are))
+
+      old : (t : ℕ) → t < m → get_or (set pos m p) t 0 ≡ get_or pos t 0
+      old t h = get_or-set_other pos m t p 0 (λ z. omega arith)
+
+      step : (t u : ℕ) → t ≤ u → u < m + 1 → get_or (set pos m p) t 0 ≤ get_or (set pos m p) u 0
+      step t u a b = elim (cases_eq u m) [
+        | inl s ↦ elim (cases_eq t m) [
+          | inl z ↦ omega (arith, ap (λ x. get_or (set pos m p) x 0) (z ∙ sym s))
+          | inr z ↦ omega (arith, ap (λ x. get_or (set pos m p) x 0) s, here, old t (omega arith), S.last t (omega arith))
+        ]
+        | inr s ↦ omega (arith, old u (omega arith), old t (omega arith), S.rising t u a (omega arith))
+      ]
+
+      below : (t : ℕ) → t < m + 1 → get_or (set pos m p) t 0 < n
+      below t h = omega (arith, step t m (omega arith) (omega arith), here, low)
 
 -- a position is through
 pub next_position : (ps : List ℕ) (k n p m : ℕ) (pos place : List ℕ) → Placing ps k n p k m pos place → Placing ps k n (p + 1) 0 m pos place

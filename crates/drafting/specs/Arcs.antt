@@ -8,7 +8,6 @@ use Rattle.patch.specs.Faults.{position}
 use Rattle.patch.specs.Paths.{target}
 use Rattle.patch.specs.Records.{Record, filler, cell, off, on, outlet, unmarked, unclean, nth}
 use Rattle.scale.specs.Model.{ScaleModel}
-use Rattle.settling.specs.Draft.{Beyond}
 use Rattle.strip.specs.Row.{Row}
 use Rattle.drafting.specs.declared.plan.Plan.{Plan}
 
@@ -22,7 +21,7 @@ spot m place f = cond (f == 0 || nat_lt 128 f) m (slice_index place (f - 1))
 
 -- the same, by a plan
 abbrev pub spots : Plan → ℕ → ℕ
-spots plan = spot plan.cells plan.place
+spots plan = spot plan.places.cells plan.place
 
 module _ (M : ScaleModel) where
   -- at u: x, if u is the place v, and else nothing
@@ -72,7 +71,6 @@ pub record Entered (M : ScaleModel) {S : Type 0} (code : S → Row) (ρ : ℕ �
   pub off : (h u : ℕ) → h < 128 → Grid M code w' 0 h u ≡ (scalars M).plus (Grid M code w 0 h u) (off_part M ρ r h u)
   pub dif : (h u : ℕ) → h < 128 → Grid M code w' 128 h u ≡ (scalars M).plus (Grid M code w 128 h u) (dif_part M ρ r h u)
   pub out : (u : ℕ) → up M (o' u) ≡ (scalars M).plus (up M (o u)) (out_part M ρ r u)
-  pub beyond : Beyond code w w'
 
 -- the rows of the places 0 to m and the outlet, with the first k of some records entered, and nothing else
 pub record Summed (M : ScaleModel) {S : Type 0} (code : S → Row) (ρ : ℕ → ℕ) (rs : List Record) (k m : ℕ) (w : List S) (o : Row) : Type 0 where

@@ -4,6 +4,7 @@ ghost use Rattle.std.specs.Prelude.{⊤, ◌≡◌, ◌≤◌, length};
 
 use std::alloc::AllocError;
 
+// kept: two slices, since a slot's strips and inputs are kept apart, and there is a strip more.
 // The form of a slot: its outlet is strips[0], cell k is strips[k] and reads inputs[k - 1]; it has as many cells as inputs.
 pub struct FormView<'a, S> {
     pub strips: &'a [S],
@@ -12,7 +13,7 @@ pub struct FormView<'a, S> {
     ghost wide: { 32 ≤ length strips.now },
 }
 
-// kept: Clone and Copy by hand, since deriving Clone for a generic struct with ghost fields is refused (derive-over-ghost-field)
+// kept: Clone and Copy by hand: derive and derive_where were tried, and Clone is refused for a generic struct with ghost fields
 impl<'a, S> Clone for FormView<'a, S> {
     ghost is_clone = { λ x y. y ≡ x };
 

@@ -8,9 +8,10 @@ pub mod form;
 pub mod from_forms;
 pub mod from_patch;
 pub mod limits;
+pub mod part;
 pub mod plan;
 pub mod rows;
 
 pub use form::FormView;
 pub use from_forms::{draft_sum, draft_tied};
-pub use from_patch::draft_patch;
+pub use from_patch::{draft_patch, setup};

@@ -1,4 +1,5 @@
 pub mod Answering
+pub mod Tables
 pub mod Grids
 pub mod Sums
 pub mod Spans
@@ -6,3 +7,6 @@ pub mod Tidying
 pub mod Lifting
 pub mod Insides
 pub mod Absorbing
+pub mod Gathering
+pub mod Agreeing
+pub mod Parts

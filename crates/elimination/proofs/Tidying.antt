@@ -1,9 +1,10 @@
 -- Row operations keep the span; the steps to the reduced form.
-use Rattle.std.proofs.Common.{◌≡◌, ℕ, zero, suc, ◌+◌, ◌<◌, ◌≢◌, sym, refl, ap, ◌∙◌, subst, ap₂, add-one, arith}
+use Rattle.std.proofs.Common.{◌≡◌, ℕ, zero, suc, ◌+◌, ◌-◌, ◌<◌, ◌≢◌, List, ◌++◌, length, sym, refl, ap, ◌∙◌, subst, ap₂, add-one, arith}
 use native.Mathlib.Decide.{ℕ_discrete, dec_lt}
 use Rattle.elimination.specs.Arithmetic.{Arithmetic}
 use Rattle.strip.specs.Row.{Row, zeros}
-use Rattle.elimination.specs.Rows.{added, scaled, sum, combine, Echelon, InSpan, SameSpan, RowSet, Swept, Tidy, SpansAs, Grows}
+use Rattle.elimination.specs.Rows.{added, scaled, sum, combine, rows_in, Cleared, Echelon, InSpan, SameSpan, RowSet, Swept, Tidy, SpansAs, Grows}
+use Rattle.elimination.proofs.Tables.{row_left, row_right}
 use Rattle.elimination.proofs.Sums.{Coded, at, times_zero, zero_times, sum_zero, sum_same, combine_blank}
 use Rattle.elimination.proofs.Spans.{with_at, with_here, with_rest, sum_only, span_added}
 
@@ -15,9 +16,6 @@ module _ (F : Arithmetic) where
 
   pub same_trans : (len : ℕ) (R R' R'' : ℕ → Row) → SameSpan F len R R' → SameSpan F len R' R'' → SameSpan F len R R''
   same_trans len R R' R'' a b = record { to = λ f s. b.to f (a.to f s); from = λ f s. a.from f (b.from f s) }
-
-  pub same_refl : (len : ℕ) (R : ℕ → Row) → SameSpan F len R R
-  same_refl len R = record { to = λ f s. s; from = λ f s. s }
 
   module _ (len : ℕ) (R : ℕ → Row) where
     pub span_zeros : InSpan F len R zeros
@@ -81,17 +79,6 @@ module _ (F : Arithmetic) where
                 (λ i l. ap (λ x. times x (A i p)) (sym (with_rest m c b.coef i (omega arith)))))
                 (ap₂ times (sym (with_here m c b.coef)) (sym (at e p)));
           }
-
-  -- the rows of A count only below m
-  pub spans_rows : (m : ℕ) (A B : ℕ → Row) (n : ℕ) (R : ℕ → Row) → ((h : ℕ) → h < m → B h ≡ A h) → SpansAs F m B n R → SpansAs F m A n R
-  spans_rows m A B n R e s =
-      record {
-        to = λ f t. s.to f (record { coef = t.coef; is = λ p. t.is p ∙ sum_same F m _ _ (λ h l. ap (times (t.coef h)) (sym (at (e h l) p))) });
-        from = λ f t. let u = s.from f t in record { coef = u.coef; is = λ p. u.is p ∙ sum_same F m _ _ (λ h l. ap (times (u.coef h)) (at (e h l) p)) };
-      }
-
-  pub spans_trans : (m : ℕ) (A : ℕ → Row) (n : ℕ) (R R' : ℕ → Row) → SpansAs F m A n R → SameSpan F n R R' → SpansAs F m A n R'
-  spans_trans m A n R R' a b = record { to = λ f s. b.to f (a.to f s); from = λ f s. a.from f (b.from f s) }
 
   module _ (len : ℕ) (R R' : ℕ → Row) (hr : (h : ℕ) → Coded F (R h)) (hr' : (h : ℕ) → Coded F (R' h)) (shape : Echelon len R) (h : ℕ) (l : h < len) where
     module _ (filled : R h h ≢ 0) (set : RowSet R h (scaled F (inv (R h h)) (R h)) R') where
@@ -197,10 +184,14 @@ module _ (F : Arithmetic) where
           same : (k p : ℕ) → p < h → R' k p ≡ R k p
           same k p b = sweep_kept k p (shape.low h p l b)
 
--- nothing to do at a place with no row
-pub tidy_empty : (len : ℕ) (R : ℕ → Row) (h : ℕ) → R h h ≡ 0 → Tidy h len R → Tidy (h + 1) len R
-tidy_empty len R h z t =
+-- the rows above are cleared by the first of the rest
+pub swept_above : (F : Arithmetic) {S : Type 0} (code : S → Row) (xs xs' ys : List S) (h : ℕ) → length xs ≡ h → length xs' ≡ h
+    → ((k : ℕ) → k < h → (c : ℕ) × Cleared F (rows_in code xs k) (rows_in code ys 0) h c (rows_in code xs' k))
+    → Swept F h h (rows_in code (xs ++ ys)) (rows_in code (xs' ++ ys))
+swept_above F code xs xs' ys h e e' each =
+    let none : h - h ≡ 0 = omega arith in
+    let first : rows_in code (xs ++ ys) h ≡ rows_in code ys 0 = row_right code xs ys h h e (omega arith) ∙ ap (rows_in code ys) none in
     record {
-      heads = λ j b n. elim (ℕ_discrete j h) [ yes e ↦ absurd (n (subst (λ m. R m m ≡ 0) (sym e) z)) | no m ↦ t.heads j (omega arith) n ];
-      alone = λ j k b s m n. elim (ℕ_discrete j h) [ yes e ↦ absurd (n (subst (λ i. R i i ≡ 0) (sym e) z)) | no u ↦ t.alone j k (omega arith) s m n ];
+      rest = λ k l. row_right code xs' ys h k e' l ∙ sym (row_right code xs ys h k e l);
+      each = λ k l. rw (row_left code xs ys k (omega arith), row_left code xs' ys k (omega arith), first) (each k l);
     }

@@ -24,9 +24,12 @@ some_code M = let h : 1 < M.q = M.field.two in omega arith
 unfoldable pub up : (M : ScaleModel) → ℕ → Element M
 up M = coded (some_code M)
 
--- what a strip holds, and what the strips of a list hold from a place of the list on
+-- what a row holds, what rows hold, and what the strips of a list hold from a place of the list on
 abbrev pub vec : (M : ScaleModel) → Row → ℕ → Element M
 vec M r p = up M (r p)
+
+abbrev pub elements : (M : ScaleModel) → (ℕ → Row) → ℕ → ℕ → Element M
+elements M R h p = up M (R h p)
 
 abbrev pub Grid : (M : ScaleModel) → {S : Type 0} → (S → Row) → List S → ℕ → ℕ → ℕ → Element M
 Grid M code work base h p = up M (Rows code work base h p)

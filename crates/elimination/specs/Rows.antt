@@ -7,9 +7,13 @@ use Rattle.elimination.specs.Arithmetic.{Arithmetic}
 abbrev pub added : Arithmetic → Row → ℕ → Row → Row
 added F f c g p = F.plus (f p) (F.times c (g p))
 
--- the rows that the strips of a list hold, from a place of the list on
+-- the rows that the strips of a list hold, and none past its end: a table of rows is such a list
+unfoldable pub rows_in : {S : Type 0} → (S → Row) → List S → ℕ → Row
+rows_in code strips h = slice_index_or (map code strips) h zeros
+
+-- the same, from a place of the list on: the rows of a part of working memory
 unfoldable pub Rows : {S : Type 0} → (S → Row) → List S → ℕ → ℕ → Row
-Rows code work base h = slice_index_or (map code work) (base + h) zeros
+Rows code work base h = rows_in code work (base + h)
 
 -- g is f less a multiple c of r, taken so that g holds 0 at h if r does not
 pub record Cleared (F : Arithmetic) (f : Row) (r : Row) (h : ℕ) (c : ℕ) (g : Row) : Type 0 where

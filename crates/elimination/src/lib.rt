@@ -1,4 +1,4 @@
-// Elimination over strips: tables of rows in working memory, indexed by pivot, for every layout of strips.
+// Elimination over strips: tables of rows in slices of strips, indexed by pivot, for every layout of strips.
 
 #![tactic(auto)]
 

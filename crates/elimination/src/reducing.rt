@@ -1,74 +1,68 @@
 // Reducing a row by a table, which is indexed by pivot: its row at h has its first filled place at h, or is blank.
-ghost use Rattle.std.specs.Prelude.{◌≡◌, ℕ, ◌+◌, ◌<◌, ◌≤◌, length};
+ghost use Rattle.std.specs.Prelude.{◌≡◌, ℕ, ◌<◌, ◌≤◌, length};
 ghost use Rattle.strip.specs.Row.{First};
 ghost use Rattle.elimination.specs.Arithmetic.{arithmetic};
-ghost use Rattle.elimination.specs.Lift.{vec, scalars, Grid, Inside, Absorbed};
-ghost use Rattle.elimination.specs.Rows.{Rows, Echelon, Balance, Reduced, Grows, Outside};
+ghost use Rattle.elimination.specs.Lift.{vec, elements, scalars, Inside, Absorbed};
+ghost use Rattle.elimination.specs.Rows.{rows_in, Echelon, Balance, Reduced, Grows};
 
 use super::rows::{clear, first_in, pivot, store};
 use strip::Strip;
 
-// Takes from v what the rows at work[base..base + size] have at its first filled places; answers the factors used.
-pub fn reduce_with<S: Strip>(work: &[S], base: usize, size: usize, v: &mut S) -> S
-    requires room { base + size ≤ length work.now }
-    requires within { size ≤ S.len }
-    requires shape { Echelon size (Rows S.code work.now base) }
-    ensures left { Reduced size (Rows S.code work.now base) (S.code v.new) }
-    ensures balance { Balance (arithmetic S.Codes.Scale.model) size (S.code result) (Rows S.code work.now base) (S.code v.old) (S.code v.new) }
-    ensures sparse { (j : ℕ) → j < size → Rows S.code work.now base j j ≡ 0 → S.code result j ≡ 0 }
-    ensures past { (p : ℕ) → size ≤ p → S.code result p ≡ 0 }
-    ensures later { (h p : ℕ) → First size (S.code v.new) h → h ≤ p → S.code result p ≡ 0 }
-    ensures early { (k : ℕ) → k ≤ size → ((p : ℕ) → p < k → S.code v.old p ≡ 0) → (p : ℕ) → p < k → (S.code result p ≡ 0) × (S.code v.new p ≡ 0) }
+// kept: what is asked of a table stands in each contract, also below and in reduced_form.rt: a struct over a lent slice was tried for working memory, and callers then learnt nothing of the slice.
+
+// Takes from v what the rows of the table have at its first filled places; answers the factors used.
+pub fn reduce_with<S: Strip>(table: &[S], v: &mut S) -> S
+    requires within { length table.now ≤ S.len }
+    requires shape { Echelon (length table.now) (rows_in S.code table.now) }
+    ensures left { Reduced (length table.now) (rows_in S.code table.now) (S.code v.new) }
+    ensures balance { Balance (arithmetic S.Codes.Scale.model) (length table.now) (S.code result) (rows_in S.code table.now) (S.code v.old) (S.code v.new) }
+    ensures sparse { (j : ℕ) → j < length table.now → rows_in S.code table.now j j ≡ 0 → S.code result j ≡ 0 }
+    ensures past { (p : ℕ) → length table.now ≤ p → S.code result p ≡ 0 }
+    ensures later { (h p : ℕ) → First (length table.now) (S.code v.new) h → h ≤ p → S.code result p ≡ 0 }
+    ensures early { (k : ℕ) → k ≤ length table.now → ((p : ℕ) → p < k → S.code v.old p ≡ 0) → (p : ℕ) → p < k → (S.code result p ≡ 0) × (S.code v.new p ≡ 0) }
 {
     let mut coef = S::blank();
-    let mut h = first_in(v, size);
-    while h < size && pivot(work, base, h) != 0 {
-        let factor = clear(v, &work[base + h], h);
+    let mut h = first_in(v, table.len());
+    // kept: h is a place of v as well as a row of the table, and leaps from one filled place of v to the next.
+    while h < table.len() && pivot(table, h) != 0 {
+        let factor = clear(v, &table[h], h);
         coef.put(h, factor);
-        h = first_in(v, size);
+        h = first_in(v, table.len());
+    }
+    coef
+}
+
+// Puts v into the table, as what is left of it when the rows are taken out; answers its coefficients over the rows
+// that the table has then.
+pub fn absorb<S: Strip>(table: &mut [S], v: S) -> S
+    requires within { length table.old ≤ S.len }
+    requires shape { Echelon (length table.old) (rows_in S.code table.old) }
+    requires inside { Inside (length table.old) (rows_in S.code table.old) }
+    requires below { (p : ℕ) → length table.old ≤ p → S.code v p ≡ 0 }
+    ensures shape { Echelon (length table.new) (rows_in S.code table.new) }
+    ensures inside { Inside (length table.new) (rows_in S.code table.new) }
+    ensures grows { Grows (arithmetic S.Codes.Scale.model) (length table.old) (rows_in S.code table.old) (S.code v) (rows_in S.code table.new) }
+    ensures absorbed { Absorbed (scalars S.Codes.Scale.model) (length table.old) (elements S.Codes.Scale.model (rows_in S.code table.old)) (vec S.Codes.Scale.model (S.code v)) (vec S.Codes.Scale.model (S.code result)) (elements S.Codes.Scale.model (rows_in S.code table.new)) }
+{
+    let mut rest = v;
+    let mut coef = reduce_with(table, &mut rest);
+    let h = first_in(&rest, table.len());
+    if h < table.len() {
+        store(table, h, rest);
+        coef.put(h, 1);
     }
     coef
 }
 
 // Adds v to the table, unless its rows span v already.
-pub fn insert<S: Strip>(work: &mut [S], base: usize, size: usize, v: S)
-    requires room { base + size ≤ length work.old }
-    requires within { size ≤ S.len }
-    requires shape { Echelon size (Rows S.code work.old base) }
-    requires inside { Inside size (Rows S.code work.old base) }
-    requires below { (p : ℕ) → size ≤ p → S.code v p ≡ 0 }
-    ensures shape { Echelon size (Rows S.code work.new base) }
-    ensures inside { Inside size (Rows S.code work.new base) }
-    ensures grows { Grows (arithmetic S.Codes.Scale.model) size (Rows S.code work.old base) (S.code v) (Rows S.code work.new base) }
-    ensures outside { Outside S.code work.old base size work.new }
+pub fn insert<S: Strip>(table: &mut [S], v: S)
+    requires within { length table.old ≤ S.len }
+    requires shape { Echelon (length table.old) (rows_in S.code table.old) }
+    requires inside { Inside (length table.old) (rows_in S.code table.old) }
+    requires below { (p : ℕ) → length table.old ≤ p → S.code v p ≡ 0 }
+    ensures shape { Echelon (length table.new) (rows_in S.code table.new) }
+    ensures inside { Inside (length table.new) (rows_in S.code table.new) }
+    ensures grows { Grows (arithmetic S.Codes.Scale.model) (length table.old) (rows_in S.code table.old) (S.code v) (rows_in S.code table.new) }
 {
-    let mut rest = v;
-    let _ = reduce_with(work, base, size, &mut rest);
-    let h = first_in(&rest, size);
-    if h < size {
-        store(work, base, h, rest);
-    }
-}
-
-// Puts v into the table, as what is left of it when the rows are taken out; answers its coefficients over the rows
-// that the table has then.
-pub fn absorb<S: Strip>(work: &mut [S], base: usize, size: usize, v: S) -> S
-    requires room { base + size ≤ length work.old }
-    requires within { size ≤ S.len }
-    requires shape { Echelon size (Rows S.code work.old base) }
-    requires inside { Inside size (Rows S.code work.old base) }
-    requires below { (p : ℕ) → size ≤ p → S.code v p ≡ 0 }
-    ensures shape { Echelon size (Rows S.code work.new base) }
-    ensures inside { Inside size (Rows S.code work.new base) }
-    ensures outside { Outside S.code work.old base size work.new }
-    ensures absorbed { Absorbed (scalars S.Codes.Scale.model) size (Grid S.Codes.Scale.model S.code work.old base) (vec S.Codes.Scale.model (S.code v)) (vec S.Codes.Scale.model (S.code result)) (Grid S.Codes.Scale.model S.code work.new base) }
-{
-    let mut rest = v;
-    let mut coef = reduce_with(work, base, size, &mut rest);
-    let h = first_in(&rest, size);
-    if h < size {
-        store(work, base, h, rest);
-        coef.put(h, 1);
-    }
-    coef
+    let _ = absorb(table, v);
 }

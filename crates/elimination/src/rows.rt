@@ -1,39 +1,41 @@
-// Rows in working memory: read, write and measure them, and add a multiple of one to another.
-ghost use Rattle.std.specs.Prelude.{◌≡◌, ℕ, ◌+◌, ◌<◌, ◌≤◌, length};
+// Rows in strips: read, write and measure them, and add a multiple of one to another.
+ghost use Rattle.std.specs.Prelude.{◌≡◌, ℕ, ◌<◌, ◌≤◌, length};
 ghost use Rattle.strip.specs.Row.{First};
 ghost use Rattle.elimination.specs.Arithmetic.{arithmetic};
-ghost use Rattle.elimination.specs.Lift.{Grid, Gathered};
-ghost use Rattle.elimination.specs.Rows.{added, Rows, RowSet, Outside, Cleared};
+ghost use Rattle.elimination.specs.Lift.{elements, Gathered};
+ghost use Rattle.elimination.specs.Rows.{added, rows_in, RowSet, Cleared};
 
 use scale::Scale;
 use strip::Strip;
 
 // The row at i.
-pub fn row<S: Strip>(work: &[S], base: usize, i: usize) -> S
-    requires room { base + i < length work.now }
-    ensures { S.code result ≡ Rows S.code work.now base i }
+#[tactic(auto, using(crate::proofs::Tables::row_read))]
+pub fn row<S: Strip>(rows: &[S], i: usize) -> S
+    requires room { i < length rows.now }
+    ensures { S.code result ≡ rows_in S.code rows.now i }
 {
-    work[base + i]
+    rows[i]
 }
 
 // Puts v for the row at h.
-pub fn store<S: Strip>(work: &mut [S], base: usize, h: usize, v: S)
-    requires room { base + h < length work.old }
-    ensures row { RowSet (Rows S.code work.old base) h (S.code v) (Rows S.code work.new base) }
-    ensures outside { (n : ℕ) → h < n → Outside S.code work.old base n work.new }
+pub fn store<S: Strip>(rows: &mut [S], h: usize, v: S)
+    requires room { h < length rows.old }
+    ensures { RowSet (rows_in S.code rows.old) h (S.code v) (rows_in S.code rows.new) }
 {
-    work[base + h] = v;
+    rows[h] = v;
 }
 
 // What the row at h holds at h.
-pub fn pivot<S: Strip>(work: &[S], base: usize, h: usize) -> u8
-    requires room { base + h < length work.now }
-    ensures { result ≡ Rows S.code work.now base h h }
+#[tactic(auto, using(crate::proofs::Tables::row_read))]
+pub fn pivot<S: Strip>(table: &[S], h: usize) -> u8
+    requires room { h < length table.now }
+    ensures { result ≡ rows_in S.code table.now h h }
 {
-    work[base + h].ask(h)
+    table[h].ask(h)
 }
 
 // The first filled place below size, or size.
+// kept: size for none, as a strip's `first` answers its length for none: callers compare the place with a table's length.
 pub fn first_in<S: Strip>(v: &S, size: usize) -> usize
     requires within { size ≤ S.len }
     ensures { First size (S.code v.now) result }
@@ -50,6 +52,7 @@ pub fn tail<S: Strip>(r: S, e: usize) -> S
 {
     let mut s = r;
     let mut p = s.first();
+    // kept: p leaps from one filled place to the next.
     while p < e {
         s.put(p, 0);
         p = s.first();
@@ -73,16 +76,14 @@ pub fn clear<S: Strip>(v: &mut S, row: &S, h: usize) -> u8
     factor
 }
 
-// sum += r[from] * row from + .. + r[to - 1] * row (to - 1)
-pub fn gather<S: Strip>(work: &[S], base: usize, r: &S, from: usize, to: usize, sum: &mut S)
-    requires room { base + to ≤ length work.now }
-    requires order { from ≤ to }
-    ensures { Gathered S.Codes.Scale.model (S.code r.now) (Grid S.Codes.Scale.model S.code work.now base) from to (S.code sum.old) (S.code sum.new) }
+// sum += r[from] * rows[from] + .. + r[n - 1] * rows[n - 1], for n rows
+pub fn gather<S: Strip>(rows: &[S], r: &S, from: usize, sum: &mut S)
+    ensures { Gathered S.Codes.Scale.model (S.code r.now) (elements S.Codes.Scale.model (rows_in S.code rows.now)) from (length rows.now) (S.code sum.old) (S.code sum.new) }
 {
-    for t in from..to {
+    for (t, row) in rows.iter().enumerate().skip(from) {
         let c = r.ask(t);
         if c != 0 {
-            add_times(sum, c, &work[base + t]);
+            add_times(sum, c, row);
         }
     }
 }

@@ -8,7 +8,7 @@ use Rattle.std.proofs.lemmas.List.Edits.{get_or-between}
 use lib.ListN.{length-map}
 use Rattle.std.proofs.lemmas.List.{get_or_past, get_or_append_left, get_or-append_right, get_or-take, get_or-drop, get_or-replicate, length-append, length-take-le, length-drop}
 use Rattle.elimination.specs.Arithmetic.{arithmetic, zero_in}
-use Rattle.elimination.specs.Rows.{Rows, Outside, scaled}
+use Rattle.elimination.specs.Rows.{Rows, rows_in, Outside, scaled}
 use Rattle.elimination.proofs.Answering.{add_answer}
 use Rattle.scale.specs.Model.{ScaleModel}
 use Rattle.elimination.proofs.Grids.{rows_at, rows_read, rows_same, set_outside}
@@ -30,12 +30,12 @@ module _ {S : Type 0} (code : S → Row) where
   row_same (x ∷ xs) ys b k c j e h l = rows_at code ys b k x h ∙ ap code (e x) ∙ sym (rows_at code (x ∷ xs) c j x l)
 
   pub row_past : (xs : List S) (b k : ℕ) → length xs ≤ b + k → Rows code xs b k ≡ zeros
-  unfolding Rows
+  unfolding Rows rows_in
   row_past xs b k h = get_or_past (map code xs) (b + k) zeros (rw length-map h)
 
   -- the same place by another base, and in a part of the list
   pub row_moved : (xs : List S) (b k c j : ℕ) → b + k ≡ c + j → Rows code xs b k ≡ Rows code xs c j
-  unfolding Rows
+  unfolding Rows rows_in
   row_moved xs b k c j e = ap (λ i. get_or (map code xs) i zeros) e
 
   pub part_long : (xs : List S) (a e : ℕ) → e ≤ length xs → length (between a e xs) ≡ e - a
@@ -141,32 +141,32 @@ module _ {S : Type 0} (code : S → Row) where
       }
 
   -- and the rows of the cells are copied from the working strips, behind a blank slot's outlet
-  module _ (xs ys work mid : List S) (outlet : Row) (cells n : ℕ) (few : n ≡ min cells 31) (room : 512 ≤ length work) (wide : 32 ≤ length xs)
-      (is : mid ≡ between 289 (289 + n) work) (f : Filled code xs 0 (λ k. cond (eqb k 0) outlet zeros) ys) where
-    long : length mid ≡ n
-    long = ap length is ∙ part_long code work 289 (289 + n) (omega arith) ∙ omega arith
+  module _ (xs ys work mid : List S) (outlet : Row) (cells : ℕ) (few : cells ≤ 31) (room : 512 ≤ length work) (wide : 32 ≤ length xs)
+      (is : mid ≡ between 289 (289 + cells) work) (f : Filled code xs 0 (λ k. cond (eqb k 0) outlet zeros) ys) where
+    long : length mid ≡ cells
+    long = ap length is ∙ part_long code work 289 (289 + cells) (omega arith) ∙ omega arith
 
-    out : Outside code ys 1 n (put_mid 1 n ys mid)
-    out = mid_outside code ys mid 1 n (omega (arith, f.long)) long
+    out : Outside code ys 1 cells (put_mid 1 cells ys mid)
+    out = mid_outside code ys mid 1 cells (omega (arith, f.long)) long
 
     -- the row of cell suc j
-    cell_copied : (j : ℕ) → j < n → Rows code (put_mid 1 n ys mid) 0 (suc j) ≡ Rows code work 288 (suc j)
+    cell_copied : (j : ℕ) → j < cells → Rows code (put_mid 1 cells ys mid) 0 (suc j) ≡ Rows code work 288 (suc j)
     cell_copied j h =
-        row_moved code (put_mid 1 n ys mid) 0 (suc j) 1 j (omega arith) ∙ mid_row code ys mid 1 n (omega (arith, f.long)) long j h
-        ∙ ap (λ zs. Rows code zs 0 j) is ∙ row_part code work 289 (289 + n) j (omega arith) (omega arith) ∙ row_moved code work 289 j 288 (suc j) (omega arith)
+        row_moved code (put_mid 1 cells ys mid) 0 (suc j) 1 j (omega arith) ∙ mid_row code ys mid 1 cells (omega (arith, f.long)) long j h
+        ∙ ap (λ zs. Rows code zs 0 j) is ∙ row_part code work 289 (289 + cells) j (omega arith) (omega arith) ∙ row_moved code work 289 j 288 (suc j) (omega arith)
 
-    row_is : (k : ℕ) → k < 32 → Rows code (put_mid 1 n ys mid) 0 k ≡ form_rows outlet cells (Rows code work 288) k
+    row_is : (k : ℕ) → k < 32 → Rows code (put_mid 1 cells ys mid) 0 k ≡ form_rows outlet cells (Rows code work 288) k
     row_is zero l = out.before 0 0 (omega arith) ∙ f.here 0 (omega arith)
-    row_is (suc j) l = elim (dec_lt j n) [
+    row_is (suc j) l = elim (dec_lt j cells) [
       | yes h ↦ cell_copied j h ∙ sym (cell_row outlet cells (Rows code work 288) (suc j) (omega arith) (omega arith))
       | no h ↦ out.after 0 (suc j) (omega arith) ∙ f.here (suc j) l ∙ cond-false _ _ _ (ne_eqb (suc j) 0 (λ e. omega arith)) ∙ sym (no_cell_row outlet cells (Rows code work 288) (suc j) (omega arith) (omega arith))
     ]
 
-    pub cells_copied : Filled code xs 0 (form_rows outlet cells (Rows code work 288)) (put_mid 1 n ys mid)
+    pub cells_copied : Filled code xs 0 (form_rows outlet cells (Rows code work 288)) (put_mid 1 cells ys mid)
     cells_copied = record {
       here = row_is;
       outside = record { before = λ b k l. absurd (omega arith); after = λ b k l. out.after b k (omega arith) ∙ f.outside.after b k l };
-      long = mid_long code ys mid 1 n (omega (arith, f.long)) long ∙ f.long;
+      long = mid_long code ys mid 1 cells (omega (arith, f.long)) long ∙ f.long;
     }
 
 -- a multiple added to a blank row is that multiple

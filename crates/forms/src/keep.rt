@@ -10,16 +10,16 @@ use strip::Strip;
 pub fn keep_form<S: Strip>(slot: &mut [S], work: &[S], form: &Form<S>)
     requires slot { 32 ≤ length slot.old }
     requires room { 512 ≤ length work.now }
-    ensures { Filled S.code slot.old 0 (form_rows (S.code form.now.out) form.now.cells (Rows S.code work.now 288)) slot.new }
+    ensures { Filled S.code slot.old 0 (form_rows (S.code form.now.out) form.now.places.cells (Rows S.code work.now 288)) slot.new }
 {
-    // a settled form has at most 31 cells
-    let cells = form.cells.min(31);
+    let cells = form.places.cells;
     keep_silent(slot);
     slot[0] = form.out;
     slot[1..cells + 1].copy_from_slice(&work[CAN + 1..CAN + 1 + cells]);
 }
 
 // Makes the 32 strips from `to` on those from `from` on, with c times the outlet.
+// kept: two slots by their first strips and not as two slices, since they may be the same slot.
 pub fn keep_weighed<S: Strip>(strips: &mut [S], to: usize, from: usize, c: u8)
     requires target { to + 32 ≤ length strips.old }
     requires source { from + 32 ≤ length strips.old }

@@ -1,8 +1,8 @@
 // Answers as lines of text.
 use crate::script::Fault;
-use patch::{Patch, Refusal, ScanOrder, Setup, listing};
+use drafting::setup;
+use patch::{Patch, Refusal, ScanOrder, listing};
 use rack::{Answer, Outcome};
-use scale::Scale;
 use std::alloc::{AllocError, Global};
 use std::fmt::Display;
 use strip::Strip;
@@ -15,16 +15,6 @@ const LISTING_ROOM: usize = 65536;
 pub struct Report {
     heap: Global,
     lines: Vec<u8>,
-}
-
-// Bytes that a rack over strips of this kind wrote, as a patch.
-fn written<'a, S: Strip>(bytes: &'a [u8], order: &ScanOrder) -> Patch<'a> {
-    let setup = Setup {
-        order: *order,
-        places: S::length(),
-        codes: S::Codes::codes(),
-    };
-    Patch::admit(bytes, &setup)
 }
 
 impl Report {
@@ -109,7 +99,8 @@ impl Report {
             return self.outcome(outcome);
         };
         let mut lines = vec![in self.heap; 0u8; LISTING_ROOM]?;
-        match listing(&written::<S>(bytes, order), &mut lines) {
+        let patch = Patch::admit(bytes, &setup::<S>(order));
+        match listing(&patch, &mut lines) {
             Ok(n) => self.lines.extend_from_slice(&lines[..n]),
             Err(refusal) => self.refusal(&refusal),
         }

@@ -80,7 +80,8 @@ fn a_count<'a>(word: &'a [u8]) -> Result<usize, Fault<'a>> {
     Ok(a_number(word)? as usize)
 }
 
-// A number where a byte is wanted: what is too large for a byte is out of every range as 255 is.
+// A number where a byte is wanted.
+// kept: 255 for what is too large, which is out of every range as 255 is, so that the call itself refuses it.
 fn a_byte<'a>(word: &'a [u8]) -> Result<u8, Fault<'a>> {
     Ok(u8::try_from(a_number(word)?).unwrap_or(u8::MAX))
 }
@@ -114,6 +115,7 @@ fn count_or<'a>(word: Option<&'a [u8]>, other: usize) -> Result<usize, Fault<'a>
     word.map_or(Ok(other), a_count)
 }
 
+// kept: a function to a call from here on, since each takes other words and makes another press.
 fn open_line<'a>(heap: Global, words: &[&'a [u8]]) -> Result<Opening, Stop<'a>> {
     let (words, strips) = before_pair(words, b"strips");
     let [scale, inputs @ ..] = words else {

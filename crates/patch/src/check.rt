@@ -19,6 +19,7 @@ fn scan(bytes: &[u8], setup: &Setup) -> Result<(), Refusal>
     ensures { Tells result (check_from (listed setup.now.order) setup.now.places setup.now.codes 0 [] (records bytes.now)) }
 {
     let mut cells = Cells::none();
+    // kept: a labelled break that yields the refusal, a form that docs/DECISIONS.md asks for.
     'scan: {
         for (k, record) in bytes.chunks_exact(4).enumerate() {
             let record = match check_record(record, k, &cells, setup) {

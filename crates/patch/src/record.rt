@@ -9,6 +9,7 @@ use crate::refusal::Refusal;
 use crate::setup::Setup;
 
 // What a record without a fault says. Arcs have the cell they come from, the cell they lead to, and their code.
+// kept: these three by place, since a struct for them would be one more name at each match and say the same.
 #[derive(Clone, Copy, Debug, PartialEq, Eq)]
 pub enum Record {
     Filler,

@@ -30,6 +30,8 @@ pub enum Refusal {
 }
 
 impl Refusal {
+    // The number of the cause.
+    // kept: written out, since docs/REFUSALS.md gives each cause its number and a cause may carry a place.
     pub fn number(&self) -> u8
         ensures { result ≡ number self.now }
     {
@@ -56,6 +58,8 @@ impl Refusal {
         }
     }
 
+    // The place of the record that is blamed, 0 where none is.
+    // kept: 0 and no Option, since the line of a refusal prints it so.
     pub fn place(&self) -> usize
         ensures { result ≡ place self.now }
     {

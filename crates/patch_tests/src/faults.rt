@@ -3,6 +3,7 @@ use patch::{ScanOrder, Setup, examine};
 use std::process::Abort;
 
 // What the check answers at gates, with inputs 0 and 1 in that order: 0 for none.
+// kept: 0, and 255 where the order is refused, and no Result, as the tables of the tests hold it.
 fn answer(bytes: &[u8], places: usize) -> (u8, usize) {
     let mut order = ScanOrder::new();
     if let Err(_) = order.arrange(&[0, 1]) {

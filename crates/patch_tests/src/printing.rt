@@ -4,7 +4,21 @@ use std::alloc::AllocError;
 use std::process::Abort;
 use std::test::Fail;
 
-// Lists a patch of ten codes over one input into an output of so many bytes, all 7, and compares with a text and what is left of the output.
+// What was written is the text, or nothing where it did not fit; the rest of the output, all 7 before, is as it was.
+fn shows(rt: &impl Abort, out: &[u8], wrote: Result<usize, Refusal>, text: &[u8]) {
+    let length = match wrote {
+        Ok(length) => length,
+        Err(refusal) => {
+            assert_eq!(rt; (refusal.number(), refusal.place()), (9, 0));
+            0
+        }
+    };
+    assert_eq!(rt; length, text.len());
+    assert!(rt; out.starts_with(text));
+    assert!(rt; out.iter().skip(text.len()).all(|b| *b == 7));
+}
+
+// Lists a patch of 200 codes over one input into an output of so many bytes, all 7, and compares with a text and what is left of the output.
 fn prints(rt: &impl Abort, bytes: &[u8], room: usize, text: &[u8]) -> Result<(), Fail> {
     let mut out = [7; 256];
     if room > 256 {
@@ -16,16 +30,8 @@ fn prints(rt: &impl Abort, bytes: &[u8], room: usize, text: &[u8]) -> Result<(),
         codes: 200,
     };
     let patch = Patch::admit(bytes, &setup);
-    let length = match listing(&patch, &mut out[..room]) {
-        Ok(length) => length,
-        Err(refusal) => {
-            assert_eq!(rt; (refusal.number(), refusal.place()), (9, 0));
-            0
-        }
-    };
-    assert_eq!(rt; length, text.len());
-    assert!(rt; out.starts_with(text));
-    assert!(rt; out.iter().skip(text.len()).all(|b| *b == 7));
+    let wrote = listing(&patch, &mut out[..room]);
+    shows(rt, &out, wrote, text);
     Ok(())
 }
 
@@ -53,16 +59,8 @@ fn line(rt: &impl Abort, refusal: &Refusal, room: usize, text: &[u8]) -> Result<
     if room > 64 {
         return Err(Fail::new("no such room"));
     }
-    let length = match refusal_line(refusal, &mut out[..room]) {
-        Ok(length) => length,
-        Err(refusal) => {
-            assert_eq!(rt; (refusal.number(), refusal.place()), (9, 0));
-            0
-        }
-    };
-    assert_eq!(rt; length, text.len());
-    assert!(rt; out.starts_with(text));
-    assert!(rt; out.iter().skip(text.len()).all(|b| *b == 7));
+    let wrote = refusal_line(refusal, &mut out[..room]);
+    shows(rt, &out, wrote, text);
     Ok(())
 }
 

@@ -2,6 +2,7 @@
 use patch::{Patch, Record, ScanOrder, Setup};
 
 // What arranging by a list answers: 0 for no refusal.
+// kept: 0 and no Result, as the tables of the tests hold it.
 fn arranged(order: &mut ScanOrder, list: &[u8]) -> u8 {
     match order.arrange(list) {
         Ok(()) => 0,
@@ -65,6 +66,7 @@ fn scan_orders(rt: HostRuntime) {
 }
 
 // A record by its mark and the three bytes after it.
+// kept: written out, so that the test compares with bytes and not with what the library makes of them.
 fn spelled(record: Record) -> [u8; 4] {
     match record {
         Record::Filler => [0, 0, 0, 0],

@@ -65,16 +65,17 @@ impl Slot {
 
     // Describes a settled form: its number of cells, and their inputs in the scan order.
     fn describe<S: Strip>(&mut self, form: &Form<S>, order: &ScanOrder)
-        requires few { form.now.cells ≤ 31 }
-        ensures count { self.new.count ≡ form.now.cells }
-        ensures inputs { (k : ℕ) → slice_index self.new.inputs k ≡ noted_input (listed order.now) form.now.cells form.now.pos k }
+        ensures count { self.new.count ≡ form.now.places.cells }
+        ensures inputs { (k : ℕ) → slice_index self.new.inputs k ≡ noted_input (listed order.now) form.now.places.cells form.now.places.pos k }
     {
-        let pos = &form.pos[..];
+        let cells = form.places.cells;
+        let pos = &form.places.pos[..];
         let mut inputs = [0; 31];
-        for (k, p) in pos[1..form.cells + 1].iter().enumerate() {
+        // kept: inputs by k, since after a zip over inputs.iter_mut() nothing is known of what stands in them
+        for (k, p) in pos[1..cells + 1].iter().enumerate() {
             inputs[k] = order.input(*p);
         }
-        self.count = form.cells as u8;
+        self.count = cells as u8;
         self.inputs = inputs;
     }
 }

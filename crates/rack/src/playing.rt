@@ -6,6 +6,7 @@ use std::alloc::{AllocError, Global};
 use strip::Strip;
 
 // The arguments of a panel call: for working strips and for an output, how many there are.
+// kept: v of `Tie` as a byte, since the call refuses values above 1, which a bool could not hold.
 #[derive(Drop)]
 pub enum Press {
     Load {

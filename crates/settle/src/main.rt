@@ -3,12 +3,11 @@
 
 #![tactic(auto)]
 
+use drafting::setup;
 use forms::ENCODED_ROOM;
-use patch::{Patch, Refusal, ScanOrder, Setup, listing};
+use patch::{Patch, Refusal, ScanOrder, listing};
 use rack::Rack;
 use rack::hold::STRIPS;
-use scale::Scale;
-use scale::gates::Gates;
 use std::alloc::{AllocError, Global};
 use std::io::{Read, Write};
 use strip::Strip;
@@ -43,16 +42,6 @@ impl From<AllocError> for Stop {
     }
 }
 
-// Bytes that a rack over gate strips wrote, as a patch.
-fn written<'a>(bytes: &'a [u8], order: &ScanOrder) -> Patch<'a> {
-    let setup = Setup {
-        order: *order,
-        places: GateStrip::length(),
-        codes: Gates::codes(),
-    };
-    Patch::admit(bytes, &setup)
-}
-
 // The listing of the settled bytes of a patch: it is loaded into the first slot of a new rack, and written from there.
 fn settled_listing(heap: Global, bytes: &[u8]) -> Result<Vec<u8>, Stop> {
     let mut strips = vec![in heap; GateStrip::blank(); STRIPS]?;
@@ -65,7 +54,8 @@ fn settled_listing(heap: Global, bytes: &[u8]) -> Result<Vec<u8>, Stop> {
     rack.load(0, bytes, &mut work)?;
     let n = rack.write(0, &mut settled)?;
     settled.truncate(n);
-    let n = listing(&written(&settled, &order), &mut text)?;
+    let patch = Patch::admit(&settled, &setup::<GateStrip>(&order));
+    let n = listing(&patch, &mut text)?;
     text.truncate(n);
     Ok(text)
 }

@@ -1,5 +1,5 @@
 -- What a position of the backward pass leaves in working memory.
-use Rattle.std.proofs.Common.{◌≡◌, ℕ, ◌+◌, ◌-◌, ◌<◌, ◌≤◌, List, map, get_or, sym, refl, ap, ◌∙◌, add_assoc, arith}
+use Rattle.std.proofs.Common.{◌≡◌, ℕ, ◌+◌, ◌-◌, ◌<◌, ◌≤◌, List, get_or, sym, refl, ap, ◌∙◌, add_assoc, arith}
 use native.Mathlib.Decide.{dec_lt, dec_le}
 use Rattle.linear.specs.Linear.{comb, SpannedOn}
 use Rattle.linear.specs.Sums.{sum as total}
@@ -14,21 +14,21 @@ use Rattle.diagram.proofs.Pack.{packs}
 use Rattle.scale.specs.Model.{ScaleModel}
 use Rattle.elimination.specs.Arithmetic.{arithmetic}
 use Rattle.elimination.specs.Lift.{Element, some_code, scalars, up, Grid}
-use Rattle.strip.specs.Row.{Row, zeros}
-use Rattle.elimination.specs.Rows.{Rows, Echelon, Tidy, SpansAs, Outside, InSpan}
+use Rattle.strip.specs.Row.{Row}
+use Rattle.elimination.specs.Rows.{rows_in, Rows, Echelon, Tidy, SpansAs, Outside, InSpan}
 use Rattle.elimination.proofs.Grids.{rows_coded}
 use Rattle.elimination.proofs.Lifting.{up_one, up_none, up_is_zero, up_combine}
 use Rattle.elimination.proofs.Sums as sums
 use Rattle.elimination.proofs.Sums.{at}
 use Rattle.elimination.proofs.Tidying.{span_row}
-use Rattle.settling.specs.Backing.{celled, Span, Images, filled, rows, Numbered, Cellular, Backs, Derives, Least}
-use Rattle.settling.specs.Draft.{drawn, Ordered}
+use Rattle.settling.specs.Backing.{celled, Images, filled, rows, Numbered, Cellular, Backs, Derives, Least, Exceeds, Stepped}
+use Rattle.settling.specs.Draft.{drawn, Ordered, Span}
 use Rattle.settling.proofs.Counting.{filled_true, filled_false}
 use Rattle.settling.proofs.Levelling.{from_on, next_built, next_imaged, at_least}
 
 pub rows_shift : {S : Type 0} (code : S → Row) (w : List S) (b a i : ℕ) → Rows code w (b + a) i ≡ Rows code w b (a + i)
 unfolding Rows
-rows_shift code w b a i = ap (λ (t : ℕ). get_or (map code w) t zeros) (add_assoc b a i)
+rows_shift code w b a i = ap (rows_in code w) (add_assoc b a i)
 
 module _ (M : ScaleModel) {S : Type 0} (code : S → Row) (coded : (s : S) (p : ℕ) → code s p < M.q) (m : ℕ) (w₀ w₁ : List S) (a e size : ℕ) (some : a < e) (ends : e ≤ m) (m_in : m < 128)
     (images : Images M code w₀ w₁ m a e e) (cellular : Cellular code w₀ m size e) where
@@ -111,7 +111,7 @@ module _ (M : ScaleModel) {S : Type 0} (code : S → Row) (coded : (s : S) (p : 
             )
       ]
 
-      pub cellular' : Cellular code w₃ m j a
+      cellular' : Cellular code w₃ m j a
       cellular' = record {
         can = λ i q l b. cell_past i q l (omega (arith, num.many));
         img = λ h q l b k. elim (dec_lt h e) [
@@ -148,7 +148,7 @@ module _ (M : ScaleModel) {S : Type 0} (code : S → Row) (coded : (s : S) (p : 
           (images.done h l b).img u ∙ sum_cong (scalars M) (m + 1 - e) _ _ (λ i r. ap (λ x. (scalars M).times x (Grid M code w₀ 384 (e + i) u)) (backs.off h (e + i) b))
           ∙ sym (from_on (scalars M) (m + 1) e (off h) (Grid M code w₀ 384) (omega arith) (λ t k. derives.formed.off_later h t (omega arith) (omega arith) (up_to h t l b k)) u)
 
-      pub too_many : 33 ≤ size + rows R size → Least M (get_or pos m 0) f 33
+      too_many : 33 ≤ size + rows R size → Least M (get_or pos m 0) f 33
       too_many many E form agree =
           let need : size + (33 - size) ≤ E.places =
           at_least (scalars M) (get_or pos m 0) m D derives.formed refl f derives.reached C (Grid M code w₀ 384) a e some ends (order.cells a (omega arith))
@@ -194,7 +194,7 @@ module _ (M : ScaleModel) {S : Type 0} (code : S → Row) (coded : (s : S) (p : 
               elim (dec_lt h e) [ yes o ↦ o | no o ↦ absurd (omega (arith, later h (omega arith) l)) ],
             )
 
-        pub backs' : Backs M code (get_or pos m 0) m D f out' w₃ cpos' j a
+        backs' : Backs M code (get_or pos m 0) m D f out' w₃ cpos' j a
         backs' = record {
           off = λ h u l. ap (up M) (at (num.off h (omega arith) ∙ outside.before 0 h (omega arith) ∙ images.off h (omega arith)) u) ∙ backs.off h u (omega arith);
           dif = λ h u l. ap (up M) (at (num.dif h (omega arith) ∙ outside.before 128 h (omega arith) ∙ images.dif_before h l) u) ∙ backs.dif h u (omega arith);
@@ -206,3 +206,16 @@ module _ (M : ScaleModel) {S : Type 0} (code : S → Row) (coded : (s : S) (p : 
               span.same span.earlier later backs.built (λ h l b x. backs.imaged h l (omega arith) x) (filled R) (λ k u. up M (R k u)) tidied (Grid M code w₁ 128)
               (λ h u l b k. gains h u l b) made spanned C' extends (Grid M code w₃ 384) imaging h l (omega arith) x;
         }
+
+    -- the whole step: the cells get too many, or the position is done
+    module _ (pos : List ℕ) (order : Ordered m pos) (span : Span pos a e) (edge : (v : ℕ) → v < e → get_or pos v 0 < get_or pos e 0) (cpos : List ℕ) where
+      pub exceeds : 33 ≤ size + rows R size → Exceeds M code pos m w₀ cpos size e
+      exceeds many off dif out out' f derives backs = too_many pos order span edge off dif out out' f derives cpos backs many
+
+      pub stepped : (w₃ : List S) (cpos' : List ℕ) (j : ℕ) → j ≤ 32 → Numbered code w₂ cpos w₃ cpos' (get_or pos a 0) a e size size j → Stepped M code pos m w₀ cpos size e w₃ cpos' j a
+      stepped w₃ cpos' j few num = record {
+        more = omega (arith, num.many);
+        few = few;
+        cellular = cellular' cpos w₃ cpos' j (get_or pos a 0) num;
+        recedes = λ off dif out out' f derives backs. backs' pos order span edge off dif out out' f derives cpos backs w₃ cpos' j num;
+      }

@@ -1,5 +1,5 @@
 -- The table's rows and the cells made of them: a turn of `number`.
-use Rattle.std.proofs.Common.{◌≡◌, ℕ, zero, suc, ◌+◌, ◌-◌, ◌<◌, ◌≤◌, Bool, true, false, ◌≢◌, List, get_or, Some, None, Option, sym, refl, ap, ◌∙◌, add-zero, add-one, arith, MatchOption}
+use Rattle.std.proofs.Common.{◌≡◌, ℕ, zero, suc, ◌+◌, ◌-◌, ◌<◌, ◌≤◌, Bool, true, false, ◌≢◌, List, get_or, Some, None, Option, sym, refl, ap, ◌∙◌, add-zero, add-one, arith, MatchOption, length, slice_set, get_or-set_same, get_or-set_other}
 use native.Mathlib.Decide.{ℕ_discrete, dec_lt}
 use Rattle.diagram.specs.Packed.{count, nth}
 use Rattle.diagram.proofs.Pack.{count_more, count_same, nth_last, nth_old}
@@ -94,11 +94,13 @@ module _ {S : Type 0} (code : S → Row) (w : List S) (cpos : List ℕ) (p a e s
           dif = n.dif;
         }
 
-    pub numbered_more : (w'' : List S) (cpos'' : List ℕ) → filled (Rows code w 256) k ≡ true → k < 32 → j < 32 → size ≤ 32 → a < 128 → e ≤ 128 → Added code w' cpos' w'' cpos'' p a e k j
+    pub numbered_more : (w'' : List S) (cpos'' : List ℕ) → filled (Rows code w 256) k ≡ true → k < 32 → j < 32 → size ≤ 32 → a < 128 → e ≤ 128 → Added code w' w'' a e k j → cpos'' ≡ slice_set cpos' j p → j < length cpos'
         → Numbered code w cpos w'' cpos'' p a e size (k + 1) (j + 1)
-    numbered_more w'' cpos'' row k_in j_in size_in a_in e_in ad =
+    numbered_more w'' cpos'' row k_in j_in size_in a_in e_in ad put j_room =
         let b : ℕ → Bool = filled (Rows code w 256) in
         let more : count b (k + 1) ≡ count b k + 1 = count_step b k row in
+        let pos_here : get_or cpos'' j 0 ≡ p = ap (λ l. get_or l j 0) put ∙ get_or-set_same cpos' j p 0 j_room in
+        let pos_rest : (i : ℕ) → i ≢ j → get_or cpos'' i 0 ≡ get_or cpos' i 0 = λ i n. ap (λ l. get_or l i 0) put ∙ get_or-set_other cpos' j i p 0 n in
         let many : j ≡ size + count b k = n.many in
         let last : (i : ℕ) → i < count b (k + 1) → ¬ (i < count b k) → i ≡ count b k = λ i l o. omega arith in
         let at_last : (i : ℕ) → i ≡ count b k → nth b (k + 1) i ≡ k = λ i q. ap (nth b (k + 1)) q ∙ nth_new b k row in record {
@@ -112,13 +114,13 @@ module _ {S : Type 0} (code : S → Row) (w : List S) (cpos : List ℕ) (p a e s
                 ap (Rows code w'' 288) there ∙ ad.can_here ∙ n.tab k k_in ∙ ap (Rows code w 256) (sym (at_last i q))
                 )
           ];
-          pos_old = λ i l. ad.pos_rest i (omega arith) ∙ n.pos_old i l;
+          pos_old = λ i l. pos_rest i (omega arith) ∙ n.pos_old i l;
           pos_new = λ i l. elim (dec_lt i (count b k)) [
-            | yes o ↦ ad.pos_rest (size + i) (omega arith) ∙ n.pos_new i o
+            | yes o ↦ pos_rest (size + i) (omega arith) ∙ n.pos_new i o
             | no o ↦ (
                 let q : i ≡ count b k = last i l o in
                 let there : size + i ≡ j = omega arith in
-                ap (λ t. get_or cpos'' t 0) there ∙ ad.pos_here
+                ap (λ t. get_or cpos'' t 0) there ∙ pos_here
                 )
           ];
           img_old = λ h q l r o. ad.img_rest h q l r (omega arith) ∙ n.img_old h q l r o;

@@ -6,3 +6,6 @@ pub mod Levelling
 pub mod Blocks
 pub mod Ends
 pub mod Whole
+pub mod Places
+pub mod Storing
+pub mod Fitting

@@ -1,6 +1,6 @@
 -- The backward pass underway: the canonical cells made so far stand from strip 288 on, with their positions in a list; a table of rows by
 -- head stands from strip 256 on, and the images of the places, over the canonical cells, from strip 384 on.
-use Rattle.std.specs.Prelude.{◌≡◌, ℕ, ◌+◌, ◌<◌, ◌≤◌, Bool, true, false, ◌≢◌, List, slice_index, slice_index_or}
+use Rattle.std.specs.Prelude.{◌≡◌, ℕ, ◌+◌, ◌<◌, ◌≤◌, Bool, true, false, ◌≢◌, List, slice_index}
 use Rattle.std.proofs.Math.Decide.{ℕ_discrete}
 use Rattle.linear.specs.Linear.{comb}
 use Rattle.diagram.specs.Canonical.{Derived, Canonical}
@@ -11,17 +11,13 @@ use Rattle.scale.specs.Model.{ScaleModel}
 use Rattle.elimination.specs.Lift.{Element, scalars, vec, Grid, part, Inside}
 use Rattle.strip.specs.Row.{Row}
 use Rattle.elimination.specs.Rows.{Rows}
-use Rattle.settling.specs.Draft.{drawn, Beyond}
+use Rattle.settling.specs.declared.draft.FormPlaces.{FormPlaces}
+use Rattle.settling.specs.declared.draft.Places.{Places}
+use Rattle.settling.specs.Draft.{drawn}
 
 -- the cells 1 .. size - 1, and the steady place 0
 abbrev pub celled : (M : ScaleModel) → {S : Type 0} → (S → Row) → List S → List ℕ → ℕ → (ℕ → Element M) → Diagram (Element M)
 celled M code work cpos size out = record { places = size; pos = λ j. slice_index cpos j; off = λ _ _. (scalars M).zero; dif = Grid M code work 288; out = out }
-
--- the places a .. e - 1 are those of one position, where those before e have earlier positions than e
-pub record Span (pos : List ℕ) (a e : ℕ) : Type 0 where
-  pub some : a < e
-  pub same : (v : ℕ) → a ≤ v → v < e → slice_index pos v ≡ slice_index pos a
-  pub earlier : (v : ℕ) → v < a → slice_index pos v < slice_index pos a
 
 -- what h's image and gain are, over the images of the places from e on
 pub record Pictured (M : ScaleModel) {S : Type 0} (code : S → Row) (w : List S) (w' : List S) (m e h : ℕ) : Type 0 where
@@ -36,7 +32,6 @@ pub record Images (M : ScaleModel) {S : Type 0} (code : S → Row) (w : List S) 
   pub dif_before : (k : ℕ) → k < a → Rows code w' 128 k ≡ Rows code w 128 k
   pub off : (k : ℕ) → k < 128 → Rows code w' 0 k ≡ Rows code w 0 k
   pub tab : (b k : ℕ) → 256 ≤ b + k → b + k < 384 → Rows code w' b k ≡ Rows code w b k
-  pub beyond : Beyond code w w'
 
 -- the table has a row at k
 unfoldable pub filled : (ℕ → Row) → ℕ → Bool
@@ -52,21 +47,17 @@ pub record Marked {S : Type 0} (code : S → Row) (w : List S) (w' : List S) (a 
   pub rest : (i q : ℕ) → a ≤ i → i < h → q ≢ j → Rows code w' 384 i q ≡ Rows code w 384 i q
   pub later : (i : ℕ) → h ≤ i → Rows code w' 384 i ≡ Rows code w 384 i
   pub before : (b i : ℕ) → b + i < 384 → Rows code w' b i ≡ Rows code w b i
-  pub beyond : Beyond code w w'
 
--- the row at k of the table is the cell j, of position p
-pub record Added {S : Type 0} (code : S → Row) (w : List S) (cpos : List ℕ) (w' : List S) (cpos' : List ℕ) (p a e k j : ℕ) : Type 0 where
+-- the row at k of the table is the cell j
+pub record Added {S : Type 0} (code : S → Row) (w : List S) (w' : List S) (a e k j : ℕ) : Type 0 where
   pub can_here : Rows code w' 288 j ≡ Rows code w 256 k
   pub can_rest : (i : ℕ) → i < 96 → i ≢ j → Rows code w' 288 i ≡ Rows code w 288 i
-  pub pos_here : slice_index_or cpos' j 0 ≡ p
-  pub pos_rest : (i : ℕ) → i ≢ j → slice_index cpos' i ≡ slice_index cpos i
   pub img_here : (h : ℕ) → a ≤ h → h < e → Rows code w' 384 h j ≡ Rows code w 128 h k
   pub img_rest : (h q : ℕ) → a ≤ h → h < e → q ≢ j → Rows code w' 384 h q ≡ Rows code w 384 h q
   pub img_other : (h : ℕ) → e ≤ h → Rows code w' 384 h ≡ Rows code w 384 h
   pub tab : (i : ℕ) → i < 32 → Rows code w' 256 i ≡ Rows code w 256 i
   pub off : (i : ℕ) → i < 128 → Rows code w' 0 i ≡ Rows code w 0 i
   pub dif : (i : ℕ) → i < 128 → Rows code w' 128 i ≡ Rows code w 128 i
-  pub beyond : Beyond code w w'
 
 -- the rows below k of the table are the cells size .. j - 1, of position p
 pub record Numbered {S : Type 0} (code : S → Row) (w : List S) (cpos : List ℕ) (w' : List S) (cpos' : List ℕ) (p a e size k j : ℕ) : Type 0 where
@@ -121,6 +112,13 @@ pub record Stepped (M : ScaleModel) {S : Type 0} (code : S → Row) (pos : List 
   pub few : size' ≤ 32
   pub cellular : Cellular code w' m size' e'
   pub recedes : Recedes M code pos m w cpos size e w' cpos' size' e'
+
+-- the same, of the places of a draft and of those of a form as far as they are found
+abbrev pub ExceedsAt : (M : ScaleModel) → {S : Type 0} → (S → Row) → Places → List S → FormPlaces → ℕ → Type 0
+ExceedsAt M code places w found e = Exceeds M code places.pos places.cells w found.pos (found.cells + 1) e
+
+abbrev pub StepsTo : (M : ScaleModel) → {S : Type 0} → (S → Row) → Places → List S → FormPlaces → ℕ → List S → FormPlaces → ℕ → Type 0
+StepsTo M code places w found e w' found' e' = Stepped M code places.pos places.cells w found.pos (found.cells + 1) e w' found'.pos (found'.cells + 1) e'
 
 -- the diagram of size places that stands in working memory is the canonical one of the rule f
 pub record Settles (M : ScaleModel) {S : Type 0} (code : S → Row) (n : ℕ) (f : Assignment → Element M) (w : List S) (cpos : List ℕ) (size : ℕ) (out : Row) : Type 0 where

@@ -1,35 +1,21 @@
 // Forward: each place's row is split at its position and written over a table of rows, so that what is left is reached
 // from the rule.
-ghost use Rattle.std.specs.Prelude.{◌≡◌, ℕ, ◌+◌, ◌<◌, ◌≤◌, List, length};
+ghost use Rattle.std.specs.Prelude.{◌≡◌, ℕ, ◌+◌, ◌<◌, ◌≤◌};
 ghost use Rattle.strip.specs.Row.{zeros};
 ghost use Rattle.elimination.specs.Rows.{Rows, Outside};
-ghost use Rattle.settling.specs.Draft.{Ordered, Bounded, Beyond, Tables, Block};
+ghost use Rattle.settling.specs.Draft.{Bounded, Tables};
 ghost use Rattle.settling.specs.Settling.{Sound, FormedDraft, TrimmedDraft};
 ghost use Rattle.settling.specs.Trimming.{Rest, Gain, Advances};
 
-use super::draft::{DIF, Draft, OFF, ROW};
-use elimination::reduced_form::wipe;
-use elimination::reducing::absorb;
-use elimination::rows::{gather, pivot, row, store, tail};
+use super::draft::{DIF, Draft, OFF, Places, ROW};
+use super::work::{Work, absorb, gather, pivot, row, store, wipe};
+use elimination::rows::tail;
 use strip::Strip;
 
-// Where the places of h's position end.
-fn block_end(pos: &[u8], m: usize, h: usize) -> usize
-    requires room { m < length pos.now }
-    requires below { h < m }
-    requires order { Ordered m pos.now }
-    ensures { Block m pos.now h result }
-{
-    let mut e = h + 1;
-    while e < m && pos[e] == pos[h] {
-        e += 1;
-    }
-    e
-}
+// kept: bounds by S.len and h < e stand in contracts here and in canonicalise.rt: a type that held them would need S, and places are the same for every strip.
 
 // What the row of h is where its position reads 0, over the places from e on.
-fn rest_of<S: Strip>(work: &[S], h: usize, e: usize) -> S
-    requires room { 512 ≤ length work.now }
+fn rest_of<S: Strip>(work: &Work<S>, h: usize, e: usize) -> S
     requires order { h < e }
     requires within { e ≤ S.len }
     ensures { Rest S.Codes.Scale.model S.code work.now h e (S.code result) }
@@ -41,8 +27,8 @@ fn rest_of<S: Strip>(work: &[S], h: usize, e: usize) -> S
 }
 
 // What the row of h gains where its position reads 1.
-fn gain_of<S: Strip>(work: &[S], h: usize, e: usize) -> S
-    requires room { 512 ≤ length work.now }
+// kept: apart from `rest_of`, which starts from the tail of the row and gathers the other rows: one function would take both as parameters.
+fn gain_of<S: Strip>(work: &Work<S>, h: usize, e: usize) -> S
     requires order { h < e }
     requires within { e ≤ S.len }
     ensures { Gain S.Codes.Scale.model S.code work.now h e (S.code result) }
@@ -54,18 +40,15 @@ fn gain_of<S: Strip>(work: &[S], h: usize, e: usize) -> S
 }
 
 // The row of a place splits, and both parts go into the table.
-fn split_place<S: Strip>(work: &mut [S], pos: &[u8], m: usize, h: usize)
-    requires room { 512 ≤ length work.old }
-    requires places { m < length pos.now }
-    requires within { m < S.len }
-    requires below { h < m }
-    requires order { Ordered m pos.now }
-    requires tables { Tables S.code work.old m }
-    ensures tables { Tables S.code work.new m }
-    ensures step { Advances S.Codes.Scale.model S.code pos.now m work.old h work.new (h + 1) }
-    ensures beyond { Beyond S.code work.old work.new }
+fn split_place<S: Strip>(work: &mut Work<S>, places: &Places, h: usize)
+    requires within { places.now.cells < S.len }
+    requires below { h < places.now.cells }
+    requires tables { Tables S.code work.old places.now.cells }
+    ensures tables { Tables S.code work.new places.now.cells }
+    ensures step { Advances S.Codes.Scale.model S.code places.now.pos places.now.cells work.old h work.new (h + 1) }
 {
-    let e = block_end(pos, m, h);
+    let m = places.cells;
+    let e = places.block_end(h);
     let o = rest_of(work, h, e);
     let d = gain_of(work, h, e);
     let oc = absorb(work, ROW, m + 1, o);
@@ -74,59 +57,37 @@ fn split_place<S: Strip>(work: &mut [S], pos: &[u8], m: usize, h: usize)
     store(work, DIF, h, dc);
 }
 
-// A place whose row is blank, since it is not reached from the rule, gets blank rows.
-fn blank_place<S: Strip>(work: &mut [S], m: usize, h: usize)
-    requires room { 512 ≤ length work.old }
-    requires within { m < S.len }
-    requires below { h < m }
-    requires tables { Tables S.code work.old m }
-    requires blank { Rows S.code work.old 256 h h ≡ 0 }
-    ensures tables { Tables S.code work.new m }
-    ensures step { (pos : List ℕ) → Ordered m pos → Advances S.Codes.Scale.model S.code pos m work.old h work.new (h + 1) }
-    ensures beyond { Beyond S.code work.old work.new }
-{
-    store(work, OFF, h, S::blank());
-    store(work, DIF, h, S::blank());
-}
-
-// One place: its row splits, unless it is blank.
-fn trim_place<S: Strip>(work: &mut [S], pos: &[u8], m: usize, h: usize)
-    requires room { 512 ≤ length work.old }
-    requires places { m < length pos.now }
-    requires within { m < S.len }
-    requires below { h < m }
-    requires order { Ordered m pos.now }
-    requires tables { Tables S.code work.old m }
-    ensures tables { Tables S.code work.new m }
-    ensures step { Advances S.Codes.Scale.model S.code pos.now m work.old h work.new (h + 1) }
-    ensures beyond { Beyond S.code work.old work.new }
+// One place: its row splits, unless it is blank, since the place is not reached from the rule.
+fn trim_place<S: Strip>(work: &mut Work<S>, places: &Places, h: usize)
+    requires within { places.now.cells < S.len }
+    requires below { h < places.now.cells }
+    requires tables { Tables S.code work.old places.now.cells }
+    ensures tables { Tables S.code work.new places.now.cells }
+    ensures step { Advances S.Codes.Scale.model S.code places.now.pos places.now.cells work.old h work.new (h + 1) }
 {
     if pivot(work, ROW, h) == 0 {
-        blank_place(work, m, h);
+        store(work, OFF, h, S::blank());
+        store(work, DIF, h, S::blank());
     } else {
-        split_place(work, pos, m, h);
+        split_place(work, places, h);
     }
 }
 
 // All places, from the first to the last.
-fn trim_places<S: Strip>(work: &mut [S], pos: &[u8], m: usize)
-    requires room { 512 ≤ length work.old }
-    requires places { m < length pos.now }
-    requires within { m < S.len }
-    requires order { Ordered m pos.now }
-    requires tables { Tables S.code work.old m }
-    ensures tables { Tables S.code work.new m }
-    ensures step { Advances S.Codes.Scale.model S.code pos.now m work.old 0 work.new m }
-    ensures beyond { Beyond S.code work.old work.new }
+fn trim_places<S: Strip>(work: &mut Work<S>, places: &Places)
+    requires within { places.now.cells < S.len }
+    requires tables { Tables S.code work.old places.now.cells }
+    ensures tables { Tables S.code work.new places.now.cells }
+    ensures step { Advances S.Codes.Scale.model S.code places.now.pos places.now.cells work.old 0 work.new places.now.cells }
 {
-    for h in 0..m {
-        trim_place(work, pos, m, h);
+    // kept: the number of a place names its rows in three areas, and all are written as it is trimmed
+    for h in 0..places.cells {
+        trim_place(work, places, h);
     }
 }
 
 // A table with the steady place's row alone.
-fn steady_table<S: Strip>(work: &mut [S], m: usize)
-    requires room { 512 ≤ length work.old }
+fn steady_table<S: Strip>(work: &mut Work<S>, m: usize)
     requires within { m < S.len }
     requires bounded { Bounded S.code work.old m }
     ensures tables { Tables S.code work.new m }
@@ -141,17 +102,13 @@ fn steady_table<S: Strip>(work: &mut [S], m: usize)
 }
 
 // Forward: the same rule, by places that are reached from it.
-pub fn trim<S: Strip>(work: &mut [S], d: &mut Draft<S>)
-    requires room { 512 ≤ length work.old }
+pub fn trim<S: Strip>(work: &mut Work<S>, d: &mut Draft<S>)
     requires sound { Sound S.code S.len work.old d.old }
-    ensures cells { d.new.cells ≡ d.old.cells }
-    ensures pos { d.new.pos ≡ d.old.pos }
+    ensures places { d.new.places ≡ d.old.places }
     ensures trimmed { FormedDraft S.Codes.Scale.model S.code work.old d.old → TrimmedDraft S.Codes.Scale.model S.code work.old d.old work.new d.new }
-    ensures beyond { Beyond S.code work.old work.new }
 {
-    let m = d.cells;
+    let m = d.places.cells;
     steady_table(work, m);
-    let o = absorb(work, ROW, m + 1, d.out);
-    trim_places(work, &d.pos, m);
-    d.out = o;
+    d.out = absorb(work, ROW, m + 1, d.out);
+    trim_places(work, &d.places);
 }

@@ -30,6 +30,7 @@ pub trait Strip: Copy + Sized {
         ensures { code result ≡ zeros };
 
     // The code at a place, 0 from place L on.
+    // kept: 0 and no Option, since the row that a strip means has 0 there.
     fn ask(&self, place: usize) -> u8
         ensures { result ≡ code self.now place };
 
@@ -47,6 +48,7 @@ pub trait Strip: Copy + Sized {
         ensures { First len (code self.now) result };
 
     // Whether all places are equal.
+    // kept: no PartialEq, since strips are equal by what they mean: a stored pattern that is no code counts as 0.
     fn equal(&self, other: &Self) -> bool
         ensures same { T result → code self.now ≡ code other.now }
         ensures all { code self.now ≡ code other.now → T result };

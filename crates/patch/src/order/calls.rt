@@ -52,6 +52,7 @@ impl ScanOrder {
     }
 
     // The input read at position k, 0 past the end.
+    // kept: 0 and no Option, since the call answers for every k and cannot fail.
     pub fn input(&self, k: u8) -> u8
         ensures { result ≡ slice_index (listed self.now) k }
     {
@@ -63,6 +64,7 @@ impl ScanOrder {
     }
 
     // The position of input i, or the number of inputs if it is not listed.
+    // kept: a number and no Option, since it compares as later than every position; and beside `input`, from which it differs in table and answer.
     pub fn position(&self, i: u8) -> u8
         ensures { result ≡ position (listed self.now) i }
     {

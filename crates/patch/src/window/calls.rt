@@ -53,7 +53,7 @@ impl<'a> Patch<'a> {
     }
 
     // Record k, filler past the end.
-    // kept: its place is reckoned, since `nth` of the records, or of chunks, walks over all before it.
+    // kept: filler and no Option past the end, since the call answers for every k; and its place is reckoned, since `nth` walks over all before it.
     pub fn record(&self, k: usize) -> Record
         ensures { meant result ≡ nth (records (seen self.now)) k }
     {

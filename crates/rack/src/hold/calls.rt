@@ -4,14 +4,15 @@ ghost use Rattle.patch.specs.declared.refusal.Refusal.TheVariants.{NoSlot, FewWo
 ghost use Rattle.settling.specs.Settling.{Sound};
 
 use super::{Rack, SLOT_STRIPS, SLOTS, STRIPS, Slot};
-use drafting::{FormView, draft_patch, draft_sum, draft_tied};
+use drafting::{FormView, draft_patch, draft_sum, draft_tied, setup};
 use forms::{
     ENCODED_ROOM, code_at, encode, keep_form, keep_silent, keep_weighed, same_inputs, same_strips,
 };
-use patch::{Patch, Refusal, Setup, examine};
+use patch::{Patch, Refusal, examine};
 use scale::Scale;
 use settling::draft::Draft;
 use settling::settle;
+use settling::work::{Work, over};
 use strip::Strip;
 
 // Whether there are strips enough to work in.
@@ -56,10 +57,9 @@ impl<'a, S: Strip> Rack<'a, S> {
     }
 
     // Settles a draft and keeps it in slot `to`, or refuses it for its cells.
-    fn keep(&mut self, to: usize, work: &mut [S], draft: &mut Draft<S>) -> Result<(), Refusal>
+    fn keep(&mut self, to: usize, work: &mut Work<S>, draft: &mut Draft<S>) -> Result<(), Refusal>
         requires slot { to < 16 }
         requires strips { 512 ≤ length self.old.strips.now }
-        requires room { 512 ≤ length work.old }
         requires sound { Sound S.code S.len work.old draft.old }
     {
         let form = settle(work, draft).map_err(|_| Refusal::TooManyCells)?;
@@ -74,11 +74,8 @@ impl<'a, S: Strip> Rack<'a, S> {
     pub fn load(&mut self, slot: usize, bytes: &[u8], work: &mut [S]) -> Result<(), Refusal> {
         self.check_slot(slot)?;
         check_work(work)?;
-        let setup = Setup {
-            order: self.desk.order,
-            places: S::length(),
-            codes: S::Codes::codes(),
-        };
+        let work = over(work);
+        let setup = setup::<S>(&self.desk.order);
         examine(bytes, &setup)?;
         let patch = Patch::admit(bytes, &setup);
         let mut draft = draft_patch(work, &patch);
@@ -91,6 +88,7 @@ impl<'a, S: Strip> Rack<'a, S> {
         let x = self.form(a)?;
         let y = self.form(b)?;
         check_work(work)?;
+        let work = over(work);
         let mut draft = draft_sum(work, &self.desk.order, &x, 1, &y);
         self.keep(to, work, &mut draft)
     }
@@ -129,6 +127,7 @@ impl<'a, S: Strip> Rack<'a, S> {
             return Err(Refusal::TieRange);
         }
         check_work(work)?;
+        let work = over(work);
         let mut draft = draft_tied(work, &self.desk.order, &form, input, v == 1);
         self.keep(to, work, &mut draft)
     }

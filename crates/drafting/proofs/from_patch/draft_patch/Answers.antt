@@ -6,7 +6,8 @@ use Rattle.patch.specs.Records.{records, declared, cells_of}
 use Rattle.patch.specs.Windows.{seen}
 use Rattle.patch.proofs.Admitting.{admitted_patch}
 use Rattle.drafting.specs.Arcs.{Positions}
-use Rattle.drafting.specs.Plan.{Placed}
+use Rattle.drafting.specs.Drafts.{draft_of}
+use Rattle.drafting.specs.Plan.{PlacedBy}
 use Rattle.drafting.proofs.Patching.{drafts_patch}
 use Rattle.drafting.proofs.Planning.{first_placed}
 use Rattle.drafting.proofs.from_patch.draft_patch.Goals as goal
@@ -23,8 +24,8 @@ returns-clause-drafts g c =
     let is_patch : Patch (listed patch.setup.order) M.q (seen patch) =
     subst (λ (q : ℕ). Patch (listed patch.setup.order) q (seen patch)) c.requires.codes (admitted_patch (listed patch.setup.order) patch.setup.places patch.setup.codes (seen patch) patch.admitted) in
     let d = first_placed all k _ (length (listed patch.setup.order)) _ _ _ (omega (arith, c.cell_positions-count.array_long)) (c.count.ensures ∙ ap (λ s. length (listed s)) c.order.ensures) c.place_cells-plan.ensures in
-    let placed : Placed (take k all) (cells_of (records (seen patch))) (length (listed patch.setup.order)) plan.cells plan.pos plan.place =
-    subst (λ (i : ℕ). Placed (take k all) i (length (listed patch.setup.order)) plan.cells plan.pos plan.place) counted.count d in
+    let placed : PlacedBy (take k all) (cells_of (records (seen patch))) (length (listed patch.setup.order)) plan.places plan.place =
+    subst (λ (i : ℕ). PlacedBy (take k all) i (length (listed patch.setup.order)) plan.places plan.place) counted.count d in
     let read : Positions (listed patch.setup.order) (declared [] (records (seen patch))) (take k all) = λ i l. get_or-take k all i 0 (omega (arith, counted.count)) ∙ counted.positions i l in
-    drafts_patch M patch.setup.order (seen patch) is_patch g.S.Strip.code c.add_records-out.new.work (record { cells = plan.cells; pos = plan.pos; out = c.add_records-out.result }) (take k all)
+    drafts_patch M patch.setup.order (seen patch) is_patch g.S.Strip.code c.add_records-out.new.work (draft_of plan c.add_records-out.result) (take k all)
     plan.place read placed (omega (arith, counted.count)) c.add_records-out.ensures.summed

@@ -1,10 +1,10 @@
-use Rattle.std.proofs.Common.{◌≡◌, ℕ, length, subst, arith}
+use Rattle.std.proofs.Common.{◌≡◌, ℕ, length, refl, subst, arith}
 use Rattle.drafting.specs.Plan.{Placing}
 use Rattle.drafting.proofs.Planning.{started, next_position, finished}
 use Rattle.drafting.proofs.plan.place_cells.Goals as goal
 
-pub invariant_of-plan-clause-bound : goal.invariant_of-plan-clause-bound
-invariant_of-plan-clause-bound c = (started c.args.positions.now (length c.args.positions.now) c.args.n).bound
+pub invariant_of-plan-2 : goal.invariant_of-plan-2
+invariant_of-plan-2 c = record { wide = refl; bound = (started c.args.positions.now (length c.args.positions.now) c.args.n).bound }
 
 pub loop-p-init : goal.loop-p-init
 loop-p-init c = started _ _ _
@@ -17,4 +17,4 @@ returns c =
     let ps = c.args.positions.now in
     let plan = c.loop-p.plan in
     let e : c.loop-p.p ≡ c.args.n = omega arith in
-    finished _ _ _ _ _ _ c.requires.few (subst (λ (p : ℕ). Placing ps (length ps) c.args.n p 0 plan.cells plan.pos plan.place) e c.loop-p.invariant)
+    finished _ _ _ _ _ _ c.requires.few (subst (λ (p : ℕ). Placing ps (length ps) c.args.n p 0 plan.places.cells plan.places.pos plan.place) e c.loop-p.invariant)

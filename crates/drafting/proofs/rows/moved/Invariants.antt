@@ -9,5 +9,5 @@ abbrev pub invariant-loop-t : goal.invariant-loop-t
 invariant-loop-t g l =
     let s = g.S.Strip in
     let M = g.S.Codes.Scale.model in
-    Ends l.plan.cells (s.code l.v)
-    × (l.plan.cells < s.len → (u : ℕ) → vec M (s.code l.v) u ≡ along (scalars M) l.t (place_of l.plan l.from) (vec M (s.code l.row)) u)
+    Ends l.part.steady (s.code l.v)
+    × (l.part.steady < s.len → (u : ℕ) → vec M (s.code l.v) u ≡ along (scalars M) l.t (place_of l.part) (vec M (s.code l.row)) u)

@@ -1,19 +1,12 @@
-use Rattle.std.proofs.Common.{◌+◌, ◌<◌, length, ◌∙◌, arith}
+use Rattle.std.proofs.Common.{◌∙◌, arith}
 use native.Mathlib.Decide.{ℕ_discrete}
-use Rattle.elimination.proofs.Grids.{rows_same, rows_other, set_outside, outside_trans}
+use Rattle.elimination.proofs.Tables.{set_row}
 use Rattle.elimination.proofs.reduced_form.wipe.Goals as goal
 
-pub loop-h-preserved : goal.loop-h-preserved
-loop-h-preserved g c =
-    let code = g.S.Strip.code in
-    let w = c.loop-h.work in
-    let base = c.args.base in
-    let h = c.loop-h.h in
-    let room : base + h < length w = omega arith in
-    record {
-      blank = λ k l. elim (ℕ_discrete k h) [
-        | yes e ↦ rw e (rows_same code w base h _ room ∙ c.blank.ensures)
-        | no n ↦ rows_other code w base h k _ n ∙ c.loop-h.invariant.blank k (omega arith)
-      ];
-      outside = outside_trans code _ w _ base _ c.loop-h.invariant.outside (set_outside code w base c.args.size h _ (omega arith));
-    }
+pub loop-row-preserved : goal.loop-row-preserved
+loop-row-preserved g c k l =
+    let set = set_row g.S.Strip.code c.loop-row.table c.loop-row.row-index c.blank.result (omega arith) in
+    elim (ℕ_discrete k c.loop-row.row-index) [
+      | yes e ↦ rw e (set.here ∙ c.blank.ensures)
+      | no n ↦ set.rest k n ∙ c.loop-row.invariant k (omega arith)
+    ]

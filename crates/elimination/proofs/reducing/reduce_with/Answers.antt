@@ -1,10 +1,10 @@
-use Rattle.std.proofs.Common.{◌≡◌, ℕ, ◌<◌, ◌≢◌, sym, ap, ◌∙◌, subst, arith}
+use Rattle.std.proofs.Common.{◌≡◌, ℕ, ◌<◌, ◌≢◌, sym, ap, ◌∙◌, length, subst, arith}
 use native.Mathlib.Decide.{dec_le, ℕ_discrete}
 use Rattle.strip.specs.Row.{Row}
 use Rattle.elimination.specs.Arithmetic.{arithmetic}
-use Rattle.elimination.specs.Rows.{Rows, Cleared, Echelon}
-use Rattle.elimination.proofs.Grids.{rows_read}
-use Rattle.elimination.proofs.Sums.{first_unique, zero_plus, combine_blank, rises, balanced}
+use Rattle.elimination.specs.Rows.{rows_in, Cleared, Echelon}
+use Rattle.elimination.proofs.Tables.{row_read}
+use Rattle.elimination.proofs.Sums.{zero_plus, combine_blank, rises, balanced}
 use Rattle.elimination.proofs.reducing.reduce_with.Given as given
 use Rattle.elimination.proofs.reducing.reduce_with.Goals as goal
 
@@ -18,20 +18,20 @@ loop-h-init g c =
       later = λ p _. blank p;
       sparse = λ j _ _. blank j;
       early = λ k l z. (elim (dec_le k c.first_in-h.result) [ yes o ↦ o | no o ↦ absurd (c.first_in-h.ensures.found (omega arith) (z c.first_in-h.result (omega arith))) ], λ p _. blank p);
-      balance = λ p. sym (ap (F.plus _) (combine_blank F c.args.size _ (Rows s.code c.args.work.now c.args.base) blank p)
+      balance = λ p. sym (ap (F.plus _) (combine_blank F (length c.args.table.now) _ (rows_in s.code c.args.table.now) blank p)
           ∙ zero_plus F _ (g.met.S.Strip.coded c.args.v.now p));
     }
 
 -- what a turn knows, in the words of the lemmas
 module _ (g : given.Over) (c : goal.After-first_in-h-in-loop-h g) where
   R : ℕ → Row
-  R = Rows g.S.Strip.code c.args.work.now c.args.base
+  R = rows_in g.S.Strip.code c.args.table.now
 
-  shape : Echelon c.args.size R
+  shape : Echelon (length c.args.table.now) R
   unfolding R
   shape = c.requires.shape
 
-  below : c.loop-h.h < c.args.size
+  below : c.loop-h.h < length c.args.table.now
   below = omega arith
 
   filled : R c.loop-h.h c.loop-h.h ≢ 0
@@ -40,12 +40,12 @@ module _ (g : given.Over) (c : goal.After-first_in-h-in-loop-h g) where
 
   step : Cleared (arithmetic g.S.Codes.Scale.model) (g.S.Strip.code c.loop-h.v) (R c.loop-h.h) c.loop-h.h c.clear-factor.result (g.S.Strip.code c.clear-factor.new.v)
   unfolding R
-  step = rw (rows_read g.S.Strip.code c.args.work.now c.args.base c.loop-h.h _ (omega arith) c.index-work-base.is) c.clear-factor.ensures
+  step = rw (row_read g.S.Strip.code c.args.table.now c.loop-h.h _ (omega arith) c.index-table-h.is) c.clear-factor.ensures
 
 pub loop-h-smaller : goal.loop-h-smaller
 loop-h-smaller g c =
     let F = arithmetic g.S.Codes.Scale.model in
-    let up = rises F c.args.size (R g c) c.loop-h.h (below g c) (shape g c) (filled g c)
+    let up = rises F (length c.args.table.now) (R g c) c.loop-h.h (below g c) (shape g c) (filled g c)
     (g.S.Strip.code c.loop-h.v) _ _ c.first_in-h-in-loop-h.result c.loop-h.invariant.first (step g c) c.first_in-h-in-loop-h.ensures in
     omega arith
 
@@ -54,7 +54,7 @@ unfolding R
 loop-h-preserved g c =
     let F = arithmetic g.S.Codes.Scale.model in
     let s = g.S.Strip in
-    let up = rises F c.args.size (R g c) c.loop-h.h (below g c) (shape g c) (filled g c)
+    let up = rises F (length c.args.table.now) (R g c) c.loop-h.h (below g c) (shape g c) (filled g c)
     (g.S.Strip.code c.loop-h.v) _ _ c.first_in-h-in-loop-h.result c.loop-h.invariant.first (step g c) c.first_in-h-in-loop-h.ensures in
     record {
       first = c.first_in-h-in-loop-h.ensures;
@@ -66,31 +66,11 @@ loop-h-preserved g c =
       early = λ k l z.
           let low = c.loop-h.invariant.early k l z in
           (omega arith, λ p b. c.put.ensures.rest p (omega arith) ∙ low.1 p b);
-      balance = balanced F c.args.size (R g c) c.loop-h.h (below g c) _ _ _ _ _ _ s.len c.requires.within (c.loop-h.invariant.later _ (omega arith)) c.put.ensures (step g c) c.loop-h.invariant.balance;
+      balance = balanced F (length c.args.table.now) (R g c) c.loop-h.h (below g c) _ _ _ _ _ _ s.len c.requires.within (c.loop-h.invariant.later _ (omega arith)) c.put.ensures (step g c) c.loop-h.invariant.balance;
     }
 
-pub returns-else-pivot-ne0 : goal.returns-else-pivot-ne0
-returns-else-pivot-ne0 g c =
-    record {
-      left = λ h f l.
-          let e : h ≡ c.loop-h.h = first_unique _ _ _ _ f c.loop-h.invariant.first in
-          rw e (sym c.pivot.ensures ∙ c.if-pivot-ne0.false);
-      balance = c.loop-h.invariant.balance;
-      sparse = c.loop-h.invariant.sparse;
-      later = λ h p f l. let e : h ≡ c.loop-h.h = first_unique _ _ _ _ f c.loop-h.invariant.first in c.loop-h.invariant.later p (omega arith);
-      past = λ p l. c.loop-h.invariant.later p (let w = c.loop-h.invariant.first.within in omega arith);
-      early = λ k l z p b. let low = c.loop-h.invariant.early k l z in (low.1 p b, c.loop-h.invariant.first.before p (omega arith));
-    }
+pub returns-else-pivot-ne0-clause-early : goal.returns-else-pivot-ne0-clause-early
+returns-else-pivot-ne0-clause-early g c k l z p b = ((c.loop-h.invariant.early k l z).1 p b, c.loop-h.invariant.first.before p (let low = c.loop-h.invariant.early k l z in omega arith))
 
-pub returns-after-loop-h : goal.returns-after-loop-h
-returns-after-loop-h g c =
-    record {
-      left = λ h f l.
-          let e : h ≡ c.loop-h.h = first_unique _ _ _ _ f c.loop-h.invariant.first in
-          absurd (omega arith);
-      balance = c.loop-h.invariant.balance;
-      sparse = c.loop-h.invariant.sparse;
-      later = λ h p f l. let e : h ≡ c.loop-h.h = first_unique _ _ _ _ f c.loop-h.invariant.first in c.loop-h.invariant.later p (omega arith);
-      past = λ p l. c.loop-h.invariant.later p (let w = c.loop-h.invariant.first.within in omega arith);
-      early = λ k l z p b. let low = c.loop-h.invariant.early k l z in (low.1 p b, c.loop-h.invariant.first.before p (omega arith));
-    }
+pub returns-after-loop-h-clause-early : goal.returns-after-loop-h-clause-early
+returns-after-loop-h-clause-early g c k l z p b = ((c.loop-h.invariant.early k l z).1 p b, c.loop-h.invariant.first.before p (let low = c.loop-h.invariant.early k l z in omega arith))

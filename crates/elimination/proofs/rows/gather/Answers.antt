@@ -1,48 +1,45 @@
-use Rattle.std.proofs.Common.{◌≡◌, ℕ, suc, ◌+◌, ◌-◌, ◌≤◌, sym, ap, ◌∙◌, ap₂, arith}
-use Rattle.linear.proofs.Ring.{zero_times}
-use Rattle.linear.specs.Sums.{fold}
-use Rattle.linear.specs.Sums.{sum as total}
-use Rattle.elimination.specs.Lift.{Element, up, scalars, Grid}
-use Rattle.strip.specs.Row.{Row}
-use Rattle.elimination.specs.Rows.{Rows}
-use Rattle.elimination.proofs.Grids.{rows_read}
-use Rattle.elimination.proofs.Lifting.{up_added, up_is_zero}
-use Rattle.elimination.proofs.Sums.{at}
+use Rattle.std.proofs.Common.{◌≡◌, ◌+◌, length, sym, ◌∙◌}
+use Rattle.std.proofs.lemmas.Iterator.{YieldsList-from_slice}
+use Rattle.std.proofs.lemmas.Iterator.Adapters.{YieldsList-from_skip}
+use Rattle.std.proofs.lemmas.Iterator.Consumers.{YieldsList-from_enumerate, YieldsList-turn, YieldsList-end}
+use Rattle.std.proofs.lemmas.List.{length_push}
+use Rattle.elimination.specs.Rows.{rows_in}
+use Rattle.elimination.proofs.Gathering.{many, numbered, none_added, row_added, row_skipped}
+use Rattle.elimination.proofs.rows.gather.Given as given
 use Rattle.elimination.proofs.rows.gather.Goals as goal
-use Rattle.elimination.proofs.rows.gather.Goals.{then-c-ne0, else-c-ne0}
+use Rattle.elimination.proofs.rows.gather.Goals.{In-Some}
 
 pub loop-t-init : goal.loop-t-init
-unfolding fold
-loop-t-init g c p =
-    let M = g.S.Codes.Scale.model in
-    let none : c.args.from - c.args.from ≡ 0 = omega arith in
-    rw none (sym ((scalars M).plus_zero _))
+loop-t-init g c = none_added g.S.Codes.Scale.model (g.S.Strip.code c.args.r.now) (rows_in g.S.Strip.code c.args.rows.now) c.args.from (g.S.Strip.code c.args.sum.now)
+
+-- the number and the row of this turn
+here : (g : given.Over) (c : In-Some g)
+    → (c.in-Some.t ≡ c.args.from + length c.loop-t.yielded) × (rows_in g.S.Strip.code c.args.rows.now (c.args.from + length c.loop-t.yielded) ≡ g.S.Strip.code c.in-Some.row.now)
+here g c =
+    let road = YieldsList-from_skip c.args.from (YieldsList-from_enumerate (YieldsList-from_slice c.args.rows.now (cc)) (cc)) (cc) in
+    let turn = YieldsList-turn road c.loop-t.yielded _ c.loop-t.yielded_by _ _ (c.in-Some.t, c.in-Some.row) c.in-Some.is c.next.ensures.steps in
+    numbered g.S.Strip.code c.args.rows.now c.args.from (length c.loop-t.yielded) c.in-Some.t c.in-Some.row.now turn.0 turn.1
+
+pub loop-t-preserved-then-c-ne0 : goal.loop-t-preserved-then-c-ne0
+loop-t-preserved-then-c-ne0 g c =
+    let s = g.S.Strip in
+    let h = here g (goal.at.loop-t-preserved-then-c-ne0 g c).In-Some in
+    rw (length_push c.loop-t.yielded (c.in-Some.t, c.in-Some.row))
+    (row_added g.S.Codes.Scale.model (s.code c.args.r.now) (rows_in s.code c.args.rows.now) c.args.from (length c.loop-t.yielded) c.in-Some.t h.0 (s.code c.args.sum.now) (s.code c.loop-t.sum)
+    c.loop-t.invariant (s.code c.in-Some.row.now) _ c.ask-c.result c.ask-c.ensures h.1 (g.met.S.Strip.coded c.loop-t.sum) c.add_times.ensures)
 
 pub loop-t-preserved : goal.loop-t-preserved
-unfolding fold
-loop-t-preserved g c p =
+loop-t-preserved g c =
     let s = g.S.Strip in
-    let M = g.S.Codes.Scale.model in
-    let t = c.loop-t.t in
+    let h = here g (goal.at.loop-t-preserved g c).In-Some in
+    rw (length_push c.loop-t.yielded (c.in-Some.t, c.in-Some.row))
+    (row_skipped g.S.Codes.Scale.model (s.code c.args.r.now) (rows_in s.code c.args.rows.now) c.args.from (length c.loop-t.yielded) c.in-Some.t h.0 (s.code c.args.sum.now) (s.code c.loop-t.sum)
+    c.loop-t.invariant (sym c.ask-c.ensures ∙ c.if-c-ne0.false))
+
+pub returns : goal.returns
+returns g c =
+    let rows = c.args.rows.now in
     let from = c.args.from in
-    let from_in : from ≤ t = omega arith in
-    let more : (t + 1) - from ≡ suc (t - from) = omega arith in
-    let there : from + (t - from) ≡ t = omega arith in
-    let row : Row = Rows s.code c.args.work.now c.args.base t in
-    let term : ℕ → Element M = λ i. (scalars M).times (up M (s.code c.args.r.now (from + i))) (Grid M s.code c.args.work.now c.args.base (from + i) p) in
-    let here : (scalars M).times (up M c.ask-c.result) (up M (row p)) ≡ term (t - from) =
-    ap₂ (λ x y. (scalars M).times (up M x) (up M y))
-    (c.ask-c.ensures ∙ ap (s.code c.args.r.now) (sym there))
-    (sym (ap (λ (i : ℕ). Rows s.code c.args.work.now c.args.base i p) there)) in
-    let whole : (x : Element M) → x ≡ (scalars M).plus (up M (s.code c.loop-t.sum p)) ((scalars M).times (up M c.ask-c.result) (up M (row p)))
-    → x ≡ (scalars M).plus (up M (s.code c.args.sum.now p)) (total (scalars M) ((t + 1) - from) term) =
-    λ x e. rw more (e ∙ ap₂ (scalars M).plus (c.loop-t.invariant p) here ∙ (scalars M).plus_assoc _ _ _) in
-    elim c.if-c-ne0.branch [
-      | then-c-ne0 w ↦ rw w.sum-is (whole _ (
-          ap (up M) (at w.add_times.ensures p)
-          ∙ up_added M (s.code c.loop-t.sum) (s.code w.index-work-base.result) c.ask-c.result p (g.met.S.Strip.coded c.loop-t.sum p)
-          ∙ ap (λ (f : Row). (scalars M).plus (up M (s.code c.loop-t.sum p)) ((scalars M).times (up M c.ask-c.result) (up M (f p))))
-          (sym (rows_read s.code c.args.work.now c.args.base t _ (omega arith) w.index-work-base.is))))
-      | else-c-ne0 w ↦ rw w.sum-is (whole _ (
-          sym (ap ((scalars M).plus (up M (s.code c.loop-t.sum p))) (ap (λ x. (scalars M).times x (up M (row p))) (up_is_zero M w.if-c-ne0.false) ∙ zero_times (scalars M) _) ∙ (scalars M).plus_zero _)))
-    ]
+    let road = YieldsList-from_skip from (YieldsList-from_enumerate (YieldsList-from_slice rows (cc)) (cc)) (cc) in
+    let end = YieldsList-end road c.loop-t.yielded _ c.loop-t.yielded_by _ _ c.in-None.is c.next.ensures.steps in
+    rw (end.1 ∙ many rows from) at c.loop-t.invariant

@@ -1,8 +1,9 @@
-use Rattle.elimination.specs.Lift.{Grid, Gathered}
+use Rattle.std.proofs.Common.{length}
+use Rattle.elimination.specs.Rows.{rows_in}
+use Rattle.elimination.proofs.Gathering.{FirstAdded}
 use Rattle.elimination.proofs.rows.gather.Given as goal
 
 abbrev pub invariant-loop-t : goal.invariant-loop-t
 invariant-loop-t g l =
     let s = g.S.Strip in
-    let M = g.S.Codes.Scale.model in
-    Gathered M (s.code l.r) (Grid M s.code l.work l.base) l.from l.t (s.code l.initial.sum) (s.code l.sum)
+    FirstAdded g.S.Codes.Scale.model (s.code l.r) (rows_in s.code l.rows) l.from (length l.yielded) (s.code l.initial.sum) (s.code l.sum)

@@ -8,7 +8,7 @@ returns g c =
     let code = g.S.Strip.code in
     let slot = c.args.slot.now in
     let form = c.args.form.now in
-    let n = c.min-cells.result in
-    let e : n + 1 - 1 ≡ n = omega arith in
-    rw e (cells_copied code slot _ c.args.work.now c.copy_from_slice.new.self (code form.out) form.cells n c.min-cells.ensures c.requires.room c.requires.slot c.copy_from_slice.ensures.after
+    let cells = form.places.cells in
+    let e : cells + 1 - 1 ≡ cells = omega arith in
+    rw e (cells_copied code slot _ c.args.work.now c.copy_from_slice.new.self (code form.out) cells form.places.few c.requires.room c.requires.slot c.copy_from_slice.ensures.after
     (outlet_set code slot c.keep_silent.new.slot 0 silent_rows form.out (code form.out) (omega (arith, c.requires.slot)) c.keep_silent.ensures refl))

@@ -1,29 +1,18 @@
-use Rattle.std.proofs.Common.{◌≡◌, ℕ, ◌+◌, ◌-◌, ◌<◌, ◌≤◌, sym, refl, ap, ◌∙◌, subst, ap₂, arith}
+use Rattle.std.proofs.Common.{ℕ, ◌+◌, ◌-◌, ◌<◌, ◌≤◌, sym, ap, ◌∙◌, subst, ap₂, arith}
 use native.Mathlib.Decide.{ℕ_discrete}
 use Rattle.linear.proofs.Sums.{sum_cong}
 use Rattle.elimination.specs.Lift.{up, scalars}
 use Rattle.elimination.proofs.Sums.{at}
-use Rattle.settling.specs.Backing.{Images, Pictured}
+use Rattle.settling.specs.Backing.{Pictured}
 use Rattle.settling.proofs.canonicalise.image_block.Goals as goal
-
-pub loop-h-init : goal.loop-h-init
-loop-h-init g c = record {
-  done = λ k l b. absurd (omega arith);
-  img_later = λ k l. refl;
-  dif_later = λ k l b. refl;
-  dif_before = λ k l. refl;
-  off = λ k l. refl;
-  tab = λ b k l q. refl;
-  beyond = λ b k l. refl;
-}
 
 pub loop-h-preserved : goal.loop-h-preserved
 loop-h-preserved g c =
     let s = g.S.Strip in
     let M = g.S.Codes.Scale.model in
     let m = c.args.m in
-    let a = c.args.a in
-    let e = c.args.e in
+    let a = c.args.run.start in
+    let e = c.args.run.end in
     let h = c.loop-h.h in
     let w₀ = c.args.work.now in
     let w = c.loop-h.work in
@@ -51,10 +40,4 @@ loop-h-preserved g c =
       dif_before = λ k l. got.dif k (omega arith) (omega arith) ∙ inv.dif_before k l;
       off = λ k l. got.off k l ∙ inv.off k l;
       tab = λ b k l q. got.tab b k l q ∙ inv.tab b k l q;
-      beyond = λ b k l. got.beyond b k l ∙ inv.beyond b k l;
     }
-
-pub returns : goal.returns
-returns g c =
-    let e : c.loop-h.h ≡ c.args.e = omega arith in
-    subst (λ (i : ℕ). Images g.S.Codes.Scale.model g.S.Strip.code c.args.work.now c.loop-h.work c.args.m c.args.a c.args.e i) e c.loop-h.invariant

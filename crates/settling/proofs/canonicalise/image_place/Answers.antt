@@ -8,8 +8,8 @@ use Rattle.elimination.proofs.Lifting.{up_is_zero}
 use Rattle.elimination.proofs.Sums.{at}
 use Rattle.settling.proofs.canonicalise.image_place.Goals as goal
 
-pub returns : goal.returns
-returns g c =
+pub returns-clause-is : goal.returns-clause-is
+returns-clause-is g c =
     let s = g.S.Strip in
     let M = g.S.Codes.Scale.model in
     let m = c.args.m in
@@ -22,17 +22,10 @@ returns g c =
     let h_in : h < 128 = omega arith in
     let img : (k : ℕ) → Rows s.code w₂ 384 k ≡ Rows s.code w₁ 384 k = λ k. (c.store-2.ensures.outside 128 h_in).after 384 k (omega arith) in
     record {
-      is = record {
-        img = λ p. ap (up M) (at (img h ∙ c.store.ensures.row.here) p) ∙ c.gather.ensures p
-            ∙ ap₂ (scalars M).plus (up_is_zero M (at c.blank-rest.ensures p)) (ap (λ (r : Row). total (scalars M) (m + 1 - e) (λ i. (scalars M).times (up M (r (e + i))) (Grid M s.code w₀ 384 (e + i) p))) c.row-off.ensures)
-            ∙ zero_plus (scalars M) _;
-        dif = λ p. ap (up M) (at c.store-2.ensures.row.here p) ∙ c.gather-2.ensures p
-            ∙ ap₂ (scalars M).plus (up_is_zero M (at c.blank-gain.ensures p)) (ap (λ (r : Row). total (scalars M) (m + 1 - e) (λ i. (scalars M).times (up M (r (e + i))) (Grid M s.code w₀ 384 (e + i) p))) c.row-dif.ensures)
-            ∙ zero_plus (scalars M) _;
-      };
-      img = λ k n. img k ∙ c.store.ensures.row.rest k n;
-      dif = λ k n l. c.store-2.ensures.row.rest k n ∙ (c.store.ensures.outside 128 h_in).before 128 k (omega arith);
-      off = λ k l. (c.store-2.ensures.outside 128 h_in).before 0 k (omega arith) ∙ (c.store.ensures.outside 128 h_in).before 0 k (omega arith);
-      beyond = λ b k l. (c.store-2.ensures.outside 128 h_in).after b k (omega arith) ∙ (c.store.ensures.outside 128 h_in).after b k (omega arith);
-      tab = λ b k l q. (c.store-2.ensures.outside 128 h_in).after b k (omega arith) ∙ (c.store.ensures.outside 128 h_in).before b k (omega arith);
+      img = λ p. ap (up M) (at (img h ∙ c.store.ensures.row.here) p) ∙ c.gather.ensures p
+          ∙ ap₂ (scalars M).plus (up_is_zero M (at c.blank-rest.ensures p)) (ap (λ (r : Row). total (scalars M) (m + 1 - e) (λ i. (scalars M).times (up M (r (e + i))) (Grid M s.code w₀ 384 (e + i) p))) c.row-off.ensures)
+          ∙ zero_plus (scalars M) _;
+      dif = λ p. ap (up M) (at c.store-2.ensures.row.here p) ∙ c.gather-2.ensures p
+          ∙ ap₂ (scalars M).plus (up_is_zero M (at c.blank-gain.ensures p)) (ap (λ (r : Row). total (scalars M) (m + 1 - e) (λ i. (scalars M).times (up M (r (e + i))) (Grid M s.code w₀ 384 (e + i) p))) c.row-dif.ensures)
+          ∙ zero_plus (scalars M) _;
     }

@@ -1,24 +1,14 @@
-use Rattle.std.proofs.Common.{◌≡◌, ℕ, ◌<◌, ◌≤◌, sym, refl, ap, ◌∙◌, subst, arith}
+use Rattle.std.proofs.Common.{◌≡◌, ℕ, ◌<◌, ◌≤◌, sym, ap, ◌∙◌, arith}
 use native.Mathlib.Decide.{ℕ_discrete}
 use Rattle.elimination.specs.Rows.{Rows}
 use Rattle.elimination.proofs.Sums.{at}
-use Rattle.settling.specs.Backing.{Marked}
 use Rattle.settling.proofs.canonicalise.mark.Goals as goal
-
-pub loop-h-init : goal.loop-h-init
-loop-h-init g c = record {
-  here = λ i l b. absurd (omega arith);
-  rest = λ i q l b n. absurd (omega arith);
-  later = λ i l. refl;
-  before = λ b i l. refl;
-  beyond = λ b k l. refl;
-}
 
 pub loop-h-preserved : goal.loop-h-preserved
 loop-h-preserved g c =
     let s = g.S.Strip in
     let M = g.S.Codes.Scale.model in
-    let a = c.args.a in
+    let a = c.args.run.start in
     let h = c.loop-h.h in
     let j = c.args.j in
     let k = c.args.k in
@@ -42,11 +32,5 @@ loop-h-preserved g c =
         | no r ↦ at (c.store.ensures.row.rest i r) q ∙ inv.rest i q l (omega arith) n
       ];
       later = λ i l. c.store.ensures.row.rest i (omega arith) ∙ inv.later i (omega arith);
-      beyond = λ b i l. (c.store.ensures.outside 128 h_in).after b i l ∙ inv.beyond b i l;
       before = λ b i l. (c.store.ensures.outside 128 h_in).before b i l ∙ inv.before b i l;
     }
-
-pub returns : goal.returns
-returns g c =
-    let e : c.loop-h.h ≡ c.args.e = omega arith in
-    subst (λ (i : ℕ). Marked g.S.Strip.code c.args.work.now c.loop-h.work c.args.a i c.args.k c.args.j) e c.loop-h.invariant

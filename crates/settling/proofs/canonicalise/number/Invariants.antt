@@ -1,11 +1,6 @@
-use Rattle.std.proofs.Common.{◌≤◌}
+use Rattle.std.proofs.Common.{◌+◌}
 use Rattle.settling.specs.Backing.{Numbered}
-use Rattle.settling.specs.Draft.{Beyond}
 use Rattle.settling.proofs.canonicalise.number.Given as goal
 
 abbrev pub invariant-loop-k : goal.invariant-loop-k
-invariant-loop-k g l = record {
-  few : l.j ≤ 32;
-  beyond : Beyond g.S.Strip.code l.initial.work l.work;
-  numbered : Numbered g.S.Strip.code l.initial.work l.initial.cpos l.work l.cpos l.p l.a l.e l.size l.k l.j;
-}
+invariant-loop-k g l = Numbered g.S.Strip.code l.initial.work l.initial.found.pos l.work l.found.pos l.p l.run.start l.run.end (l.initial.found.cells + 1) l.k (l.found.cells + 1)

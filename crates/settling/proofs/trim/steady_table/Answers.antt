@@ -6,8 +6,8 @@ use Rattle.elimination.proofs.Grids.{outside_trans}
 use Rattle.elimination.proofs.Sums.{at}
 use Rattle.settling.proofs.trim.steady_table.Goals as goal
 
-pub returns : goal.returns
-returns g c =
+pub returns-clause-tables : goal.returns-clause-tables
+returns-clause-tables g c =
     let s = g.S.Strip in
     let M = g.S.Codes.Scale.model in
     let m = c.args.m in
@@ -20,25 +20,20 @@ returns g c =
     let unit : (p : ℕ) → p ≢ m → Rows s.code w₂ 256 m p ≡ 0 = λ p n. at c.store.ensures.row.here p ∙ c.put.ensures.rest p n ∙ at c.blank-unit.ensures p in
     let blank : (h : ℕ) → h < m → Rows s.code w₂ 256 h ≡ zeros = λ h l. c.store.ensures.row.rest h (omega arith) ∙ c.wipe.ensures.blank h (omega arith) in
     record {
-      tables = record {
-        shape = record {
-          low = λ h p l b. elim (ℕ_discrete h m) [
-            | yes e ↦ ap (λ i. Rows s.code w₂ 256 i p) e ∙ unit p (omega arith)
-            | no n ↦ at (blank h (omega arith)) p
-          ];
-          blank = λ h p l z. elim (ℕ_discrete h m) [
-            | yes e ↦ absurd (let same : Rows s.code w₂ 256 h h ≡ Rows s.code w₂ 256 m m = ap (λ i. Rows s.code w₂ 256 i i) e in omega arith)
-            | no n ↦ at (blank h (omega arith)) p
-          ];
-        };
-        row = λ h p l b. elim (ℕ_discrete h m) [
+      shape = record {
+        low = λ h p l b. elim (ℕ_discrete h m) [
           | yes e ↦ ap (λ i. Rows s.code w₂ 256 i p) e ∙ unit p (omega arith)
           | no n ↦ at (blank h (omega arith)) p
         ];
-        off = λ h p l b. at (out.before 0 h (omega arith)) p ∙ c.requires.bounded.off h p l b;
-        dif = λ h p l b. at (out.before 128 h (omega arith)) p ∙ c.requires.bounded.dif h p l b;
+        blank = λ h p l z. elim (ℕ_discrete h m) [
+          | yes e ↦ absurd (let same : Rows s.code w₂ 256 h h ≡ Rows s.code w₂ 256 m m = ap (λ i. Rows s.code w₂ 256 i i) e in omega arith)
+          | no n ↦ at (blank h (omega arith)) p
+        ];
       };
-      one = one;
-      blank = blank;
-      outside = out;
+      row = λ h p l b. elim (ℕ_discrete h m) [
+        | yes e ↦ ap (λ i. Rows s.code w₂ 256 i p) e ∙ unit p (omega arith)
+        | no n ↦ at (blank h (omega arith)) p
+      ];
+      off = λ h p l b. at (out.before 0 h (omega arith)) p ∙ c.requires.bounded.off h p l b;
+      dif = λ h p l b. at (out.before 128 h (omega arith)) p ∙ c.requires.bounded.dif h p l b;
     }

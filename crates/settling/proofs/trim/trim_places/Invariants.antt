@@ -1,4 +1,4 @@
-use Rattle.settling.specs.Draft.{Tables, Beyond}
+use Rattle.settling.specs.Draft.{Tables}
 use Rattle.settling.specs.Trimming.{Advances}
 use Rattle.settling.proofs.trim.trim_places.Given as goal
 
@@ -6,7 +6,6 @@ abbrev pub invariant-loop-h : goal.invariant-loop-h
 invariant-loop-h g l =
     let s = g.S.Strip in
     record {
-      tables : Tables s.code l.work l.m;
-      beyond : Beyond s.code l.initial.work l.work;
-      step : Advances g.S.Codes.Scale.model s.code l.pos l.m l.initial.work 0 l.work l.h;
+      tables : Tables s.code l.work l.places.cells;
+      step : Advances g.S.Codes.Scale.model s.code l.places.pos l.places.cells l.initial.work 0 l.work l.h;
     }

@@ -1,6 +1,6 @@
 use Rattle.std.proofs.Common.{length}
-use Rattle.drafting.specs.Plan.{Placing}
+use Rattle.drafting.specs.Plan.{PlacingBy}
 use Rattle.drafting.proofs.plan.Plan.place_position.Given as goal
 
 abbrev pub invariant-loop-c : goal.invariant-loop-c
-invariant-loop-c l = Placing l.positions (length l.positions) l.n l.p l.c l.self.cells l.self.pos l.self.place
+invariant-loop-c l = PlacingBy l.positions (length l.positions) l.n l.p l.c l.self.places l.self.place
