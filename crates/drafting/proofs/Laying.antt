@@ -20,7 +20,7 @@ use Rattle.drafting.specs.declared.form.FormView.{FormView}
 use Rattle.drafting.specs.declared.part.Part.{Part}
 use Rattle.drafting.specs.declared.plan.Plan.{Plan}
 use Rattle.drafting.specs.Drafts.{Blank, draft_of}
-use Rattle.drafting.specs.Forms.{place_of, Lends, Apart, Copied, Free, Held}
+use Rattle.drafting.specs.Forms.{place_of, PartOf, Apart, Copied, Free, Held}
 use Rattle.drafting.specs.Meaning.{Drafts, form_of}
 use Rattle.drafting.specs.Plan.{PlacedBy}
 use Rattle.drafting.proofs.Moving.{size, along_blank, along_same, place_low, place_lent}
@@ -48,7 +48,7 @@ module _ (M : ScaleModel) {S : Type 0} (code : S → Row) (s : ScanOrder) (ps : 
   }
 
   -- The form's cells are those of the plan from `from` on.
-  module _ (form : FormView S) (from : ℕ) (part : Part) (lent : Lends plan from (size form) part) (fits : from + size form ≤ k) (listed_at : (j : ℕ) → j < size form → get_or ps (from + j) 0 ≡ position (listed s) (get_or form.inputs.now j 0))
+  module _ (form : FormView S) (from : ℕ) (part : Part) (lent : PartOf plan from (size form) part) (fits : from + size form ≤ k) (listed_at : (j : ℕ) → j < size form → get_or ps (from + j) 0 ≡ position (listed s) (get_or form.inputs.now j 0))
       (fP : Formed F n (form_of M code s form)) where
     abbrev P : Diagram (Element M)
     P = form_of M code s form
@@ -123,7 +123,7 @@ module _ (M : ScaleModel) {S : Type 0} (code : S → Row) (s : ScanOrder) (ps : 
         (i - from + 1, omega arith, cell_place (i - from + 1) (omega arith) (omega arith) ∙ ap (λ (j : ℕ). get_or plan.place j 0) h ∙ e)
 
   -- Two forms, one after the other: the rows are blank, then those of the first form are copied, then those of the second.
-  module _ (len : ℕ) (a b : FormView S) (pa pb : Part) (lent_a : Lends plan 0 (size a) pa) (lent_b : Lends plan (size a) (size b) pb) (all : k ≡ size a + size b) (short : plan.places.cells < len)
+  module _ (len : ℕ) (a b : FormView S) (pa pb : Part) (lent_a : PartOf plan 0 (size a) pa) (lent_b : PartOf plan (size a) (size b) pb) (all : k ≡ size a + size b) (short : plan.places.cells < len)
       (at_a : (j : ℕ) → j < size a → get_or ps (0 + j) 0 ≡ position (listed s) (get_or a.inputs.now j 0))
       (at_b : (j : ℕ) → j < size b → get_or ps (size a + j) 0 ≡ position (listed s) (get_or b.inputs.now j 0))
       (w₁ w₂ w₃ : List S) (blank : Blank code w₁ plan.places.cells)

@@ -18,7 +18,7 @@ use Rattle.drafting.specs.declared.part.Part.{Part}
 use Rattle.drafting.specs.declared.plan.Plan.{Plan}
 use Rattle.drafting.specs.Arcs.{spots}
 use Rattle.drafting.specs.Drafts.{AddedAt}
-use Rattle.drafting.specs.Forms.{place_of, Lends}
+use Rattle.drafting.specs.Forms.{place_of, PartOf}
 use Rattle.drafting.proofs.Entering.{up_more}
 
 -- how many cells a form has
@@ -68,7 +68,7 @@ pub spot_low : (plan : Plan) (f : ℕ) → spots plan f ≤ plan.places.cells
 spot_low plan f = cond_both (eqb f 0 || ltb 128 f) _ _ (λ (x : ℕ). x ≤ plan.places.cells) (λ _. omega arith) (λ _. plan.bound _)
 
 -- the place that a part gives to one of its cells is the plan's
-pub place_lent : (plan : Plan) (from count : ℕ) (part : Part) → Lends plan from count part → (t : ℕ) → 0 < t → t ≤ count
+pub place_lent : (plan : Plan) (from count : ℕ) (part : Part) → PartOf plan from count part → (t : ℕ) → 0 < t → t ≤ count
     → place_of part t ≡ get_or plan.place (from + t - 1) 0
 place_lent plan from count part lent t some few =
     let size : length part.places.now ≡ count = ap length lent.places ∙ grind (arith, lent.within, length-take, length-drop) in
@@ -77,6 +77,6 @@ place_lent plan from count part lent t some few =
     ∙ ap (λ (l : List ℕ). get_or l (t - 1) 0) lent.places ∙ get_or-take count (drop from plan.place) (t - 1) 0 (omega arith) ∙ get_or-drop from plan.place (t - 1) 0
     ∙ ap (λ (i : ℕ). get_or plan.place i 0) there
 
-pub spot_lent : (plan : Plan) (part : Part) → Lends plan 0 128 part → length plan.place ≡ 128 → (f : ℕ) → place_of part f ≡ spots plan f
+pub spot_lent : (plan : Plan) (part : Part) → PartOf plan 0 128 part → length plan.place ≡ 128 → (f : ℕ) → place_of part f ≡ spots plan f
 spot_lent plan part lent long f =
     let whole : part.places.now ≡ plan.place = lent.places ∙ take_all 128 plan.place (omega (arith, long)) in rw (lent.steady, whole, long) refl

@@ -22,7 +22,7 @@ use Rattle.drafting.specs.declared.form.FormView.{FormView}
 use Rattle.drafting.specs.declared.part.Part.{Part}
 use Rattle.drafting.specs.declared.plan.Plan.{Plan}
 use Rattle.drafting.specs.Drafts.{Blank, draft_of}
-use Rattle.drafting.specs.Forms.{place_of, Lends, Apart, Copied, Free, Held}
+use Rattle.drafting.specs.Forms.{place_of, PartOf, Apart, Copied, Free, Held}
 use Rattle.drafting.specs.Meaning.{Drafts, form_of}
 use Rattle.drafting.specs.Plan.{PlacedBy}
 use Rattle.drafting.proofs.Laying as lay
@@ -35,7 +35,7 @@ same_input s x y l e = elim (dec_lt x (length (listed s))) [
   | no h ↦ absurd (let z = (lawful s).placed y l in let r = position_high s x (omega (arith, listed_length s)) in omega (arith, listed_length s))
 ]
 
-module _ (M : ScaleModel) {S : Type 0} (code : S → Row) (s : ScanOrder) (ps : List ℕ) (plan : Plan) (form : FormView S) (part : Part) (lent : Lends plan 0 (size form) part)
+module _ (M : ScaleModel) {S : Type 0} (code : S → Row) (s : ScanOrder) (ps : List ℕ) (plan : Plan) (form : FormView S) (part : Part) (lent : PartOf plan 0 (size form) part)
     (d : PlacedBy ps (size form) (length (listed s)) plan.places plan.place) (len : ℕ) (short : plan.places.cells < len)
     (listed_at : (j : ℕ) → j < size form → get_or ps (0 + j) 0 ≡ position (listed s) (get_or form.inputs.now j 0)) (input : ℕ) (on : Bool) (known : input < length (listed s))
     (w₁ w₂ : List S) (blanked : Blank code w₁ plan.places.cells)

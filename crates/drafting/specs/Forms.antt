@@ -10,7 +10,7 @@ use Rattle.drafting.specs.declared.part.Part.{Part}
 use Rattle.drafting.specs.declared.plan.Plan.{Plan}
 
 -- the part lends the places of so many cells of the plan, from the cell `from` on
-pub record Lends (plan : Plan) (from count : ℕ) (part : Part) : Type 0 where
+pub record PartOf (plan : Plan) (from count : ℕ) (part : Part) : Type 0 where
   pub within : from + count ≤ length plan.place
   pub places : part.places.now ≡ take count (drop from plan.place)
   pub steady : part.steady ≡ plan.places.cells

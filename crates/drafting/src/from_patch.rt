@@ -21,7 +21,7 @@ use settling::work::Work;
 use strip::Strip;
 
 // Lists the positions of the patch's cells, and answers how many there are.
-// kept: a list of fixed size and how many count beside it, since the library uses no heap.
+// kept: a list of fixed size and how many count beside it, since the library uses no heap; counted by hand, since only cell records are listed.
 fn cell_positions(patch: &Patch, positions: &mut [u8; 128]) -> usize
     requires some { 0 < patch.now.setup.places }
     requires few { patch.now.setup.places ≤ 128 }
@@ -49,6 +49,7 @@ fn cell_place(plan: &Plan, cell: u8) -> usize
 }
 
 // Adds the code of an arc to the row of the cell that it comes from, in the area of working memory from `base` on.
+// kept: the area by its first strip, as in `settling::work`.
 fn add_arc<S: Strip>(work: &mut Work<S>, base: usize, plan: &Plan, from: u8, to: u8, c: u8)
     requires room { base + plan.now.places.cells < 512 }
     ensures row { AddedIn S.Codes.Scale.model S.len (Rows S.code work.old base) (spots plan.now from) (spots plan.now to) c (Rows S.code work.new base) }

@@ -8,8 +8,7 @@ ghost use Rattle.elimination.specs.Rows.{rows_in, Echelon, Balance, Reduced, Gro
 use super::rows::{clear, first_in, pivot, store};
 use strip::Strip;
 
-// kept: what is asked of a table stands in each contract, also below and in reduced_form.rt: a struct over a lent slice was tried for working memory, and callers then learnt nothing of the slice.
-
+// kept: what is asked of a table stands in each contract, here and in reduced_form.rt: a struct over the lent slice was tried, for working memory, and callers then learnt nothing of the slice.
 // Takes from v what the rows of the table have at its first filled places; answers the factors used.
 pub fn reduce_with<S: Strip>(table: &[S], v: &mut S) -> S
     requires within { length table.now ≤ S.len }

@@ -35,7 +35,7 @@ pub fn pivot<S: Strip>(table: &[S], h: usize) -> u8
 }
 
 // The first filled place below size, or size.
-// kept: size for none, as a strip's `first` answers its length for none: callers compare the place with a table's length.
+// kept: size for none and no Option, as `First` says it of a strip: callers compare the place with the table's length.
 pub fn first_in<S: Strip>(v: &S, size: usize) -> usize
     requires within { size ≤ S.len }
     ensures { First size (S.code v.now) result }

@@ -13,12 +13,12 @@ pub const ENCODED_ROOM: usize = 4096;
 // The records that are put one behind the other into an output, and the place behind the last of them.
 // kept: an array and a place in it, since nothing is allocated here: the output is memory of fixed size that a caller lends
 #[derive(Drop)]
-struct Records<'a> {
+struct Encoder<'a> {
     out: &'a mut [u8; 4096],
     at: usize,
 }
 
-impl<'a> Records<'a> {
+impl<'a> Encoder<'a> {
     // Puts a record.
     fn put(&mut self, four: [u8; 4])
         requires room { self.old.at + 4 ≤ 4096 }
@@ -77,7 +77,7 @@ pub fn encode<S: Strip>(form: &FormView<S>, out: &mut [u8; 4096]) -> usize
     ensures bytes { take result out.new ≡ form_bytes S.code form.now.strips.now 0 (length form.now.inputs.now) form.now.inputs.now }
 {
     let strips = form.strips;
-    let mut records = Records { out, at: 0 };
+    let mut records = Encoder { out, at: 0 };
     records.put_cells(form.inputs);
     records.put_rows(form);
     records.put_arcs(&strips[0], form.inputs.len() + 1, 4, 0);

@@ -33,6 +33,7 @@ fn cell_values<S: Strip>(form: &FormView<S>, setting: u64) -> [u8; 32]
     ensures { Valued S.Codes.Scale.model (Rows S.code form.now.strips.now 0) (length form.now.inputs.now) form.now.inputs.now setting result }
 {
     let strips = form.strips;
+    // kept: a list of fixed size of which as many count as there are places, since the library uses no heap; by k, since each value is made of those before it.
     let mut values = [0; 32];
     values[0] = 1;
     for (k, (row, input)) in strips[1..].iter().zip(form.inputs).enumerate() {

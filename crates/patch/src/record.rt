@@ -57,6 +57,7 @@ pub fn check_record(
 }
 
 // Reads four bytes that passed the check.
+// kept: written out and no From, since any four bytes can be given to a From, and these must have passed the check.
 pub fn read_record(bytes: &[u8]) -> Record
     ensures { result ≡ told bytes.now }
 {

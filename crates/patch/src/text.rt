@@ -3,7 +3,7 @@ ghost use Rattle.std.specs.Prelude.{◌≡◌, ◌+◌, ◌^◌, ◌<◌, ◌≤
 ghost use Rattle.patch.specs.Output.{Puts, field};
 
 // An output, and where in it the next text begins. Text that does not fit is lost, but the place goes on.
-// kept: `writeln!` into this as an `fmt::Write` was tried: its text is promised only where it answers Ok, nothing says that it does, and the exact answer of `listing` stayed open.
+// kept: a place beside the slice, since it goes on past the slice's end; and `writeln!` into this as an `fmt::Write` was tried: its text is promised only where it answers Ok, nothing says that it does, and the exact answer of `listing` stayed open.
 #[derive(Drop)]
 pub struct Output<'a> {
     pub out: &'a mut [u8],

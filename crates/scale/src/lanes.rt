@@ -7,6 +7,7 @@ use super::codes::{entry, own, xor};
 #[derive(Clone, Copy)]
 pub struct Lanes;
 
+// kept: one table of 256 entries, a form that docs/DECISIONS.md asks for.
 // the product of a and b stands at 16 * a + b
 #[rattlefmt::skip]
 const PRODUCTS: [u8; 256] = [

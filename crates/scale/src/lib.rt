@@ -12,7 +12,7 @@ pub mod lanes;
 
 // A scale has q codes, the bytes 0 to q - 1. An implementation shows by `model` that they make a field;
 // each function answers 0 when a byte given to it is no code.
-// kept: 0 and no Option, since each answers for every byte and cannot fail.
+// kept: 0 and no Option, since the definitions themselves have 0 there, and laws and callers compute with it.
 pub trait Scale {
     ghost model: { ScaleModel };
 

@@ -24,6 +24,7 @@ const SCAN_LIST: [u8; 24] = [
 const LISTING_ROOM: usize = 65536;
 
 // Why there is no listing: the patch is refused, or there was no memory.
+// kept: apart from panel's, which stops for a fault of a line and not for a refusal.
 #[derive(Drop)]
 enum Stop {
     Refused(Refusal),

@@ -11,6 +11,7 @@ use super::work::{Work, gather, pivot, reduced_form, row, store};
 use strip::Strip;
 
 // The image and the gain of a place, over the images of the places from e on.
+// kept: a blank strip and a gathering, twice here and once for the outlet: a function for the two lines would have a contract longer than they are.
 fn image_place<S: Strip>(work: &mut Work<S>, m: usize, e: usize, h: usize)
     requires order { h < e }
     requires ends { e ≤ m }

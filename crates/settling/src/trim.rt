@@ -12,7 +12,7 @@ use super::work::{Work, absorb, gather, pivot, row, store, wipe};
 use elimination::rows::tail;
 use strip::Strip;
 
-// kept: bounds by S.len and h < e stand in contracts here and in canonicalise.rt: a type that held them would need S, and places are the same for every strip.
+// kept: bounds by S.len, h < e and `Tables` stand in contracts here and in canonicalise.rt: a type for the bounds would need S, and `Tables` speaks of working memory and places at once.
 
 // What the row of h is where its position reads 0, over the places from e on.
 fn rest_of<S: Strip>(work: &Work<S>, h: usize, e: usize) -> S
@@ -80,7 +80,7 @@ fn trim_places<S: Strip>(work: &mut Work<S>, places: &Places)
     ensures tables { Tables S.code work.new places.now.cells }
     ensures step { Advances S.Codes.Scale.model S.code places.now.pos places.now.cells work.old 0 work.new places.now.cells }
 {
-    // kept: the number of a place names its rows in three areas, and all are written as it is trimmed
+    // kept: the number of a place names its rows in three areas, which are read and written as it is trimmed
     for h in 0..places.cells {
         trim_place(work, places, h);
     }

@@ -28,6 +28,7 @@ impl<C: Scale> ByteStrip<C> {
 }
 
 // The code that a stored byte means: 0 if it is none.
+// kept: 0 and no Option, since a stored byte that is no code means 0.
 fn code_of<C: Scale>(b: u8) -> u8
     ensures { result ≡ byte_code C.model.q b }
 {

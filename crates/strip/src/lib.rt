@@ -43,7 +43,7 @@ pub trait Strip: Copy + Sized {
         ensures { Added Self.Codes.Scale.model (code self.old) c (code t.now) (code self.new) };
 
     // The lowest place whose code is not 0, or L.
-    // kept: an Option would be no plainer: callers compare the place with the size of a table, and L is past each of them
+    // kept: an Option would be no plainer: callers compare the place with the size of a table, and no table is longer than L
     fn first(&self) -> usize
         ensures { First len (code self.now) result };
 

@@ -52,7 +52,7 @@ impl ScanOrder {
     }
 
     // The input read at position k, 0 past the end.
-    // kept: 0 and no Option, since the call answers for every k and cannot fail.
+    // kept: 0 and no Option, since the listed order itself is read so, 0 past its end.
     pub fn input(&self, k: u8) -> u8
         ensures { result ≡ slice_index (listed self.now) k }
     {

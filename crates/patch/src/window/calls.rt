@@ -53,7 +53,7 @@ impl<'a> Patch<'a> {
     }
 
     // Record k, filler past the end.
-    // kept: filler and no Option past the end, since the call answers for every k; and its place is reckoned, since `nth` walks over all before it.
+    // kept: filler and no Option past the end, as the records themselves are read; and its place is reckoned, since `nth` of `Records` walks over all before it.
     pub fn record(&self, k: usize) -> Record
         ensures { meant result ≡ nth (records (seen self.now)) k }
     {

@@ -16,6 +16,7 @@ use settling::work::{Work, over};
 use strip::Strip;
 
 // Whether there are strips enough to work in.
+// kept: apart from `over`, which follows it three times: a function that did both would lend an array, and each caller shows that it fits either way.
 fn check_work<S>(work: &[S]) -> Result<(), Refusal>
     ensures enough { IsOk result ↔ (512 ≤ length work.now) }
     ensures refused { IfErr result (λ e. e ≡ FewWorkingStrips) }
@@ -57,6 +58,7 @@ impl<'a, S: Strip> Rack<'a, S> {
     }
 
     // Settles a draft and keeps it in slot `to`, or refuses it for its cells.
+    // kept: a slot's part of the strips is cut here, in `form` and in `weigh`: a function that lent it would need a clause on what comes back, which is longer than the cut.
     fn keep(&mut self, to: usize, work: &mut Work<S>, draft: &mut Draft<S>) -> Result<(), Refusal>
         requires slot { to < 16 }
         requires strips { 512 ≤ length self.old.strips.now }
@@ -159,6 +161,7 @@ impl<'a, S: Strip> Rack<'a, S> {
         ensures { IfOk result (λ n. n ≤ length out.old) }
     {
         let form = self.form(a)?;
+        // kept: an output of fixed size and its length, since the library uses no heap.
         let mut bytes = [0; ENCODED_ROOM];
         let n = encode(&form, &mut bytes);
         if out.len() < n {

@@ -2,7 +2,7 @@ use Rattle.std.proofs.Common.{[], ◌++◌, sym, arith}
 use Rattle.linear.specs.Sums.{fold}
 use Rattle.forms.proofs.Continuing.{none_put, then_put, as_put}
 use Rattle.forms.proofs.Writing.{fold_more}
-use Rattle.forms.proofs.encoding.Records.put_cells.Goals as goal
+use Rattle.forms.proofs.encoding.Encoder.put_cells.Goals as goal
 
 pub loop-input-init : goal.loop-input-init
 unfolding fold

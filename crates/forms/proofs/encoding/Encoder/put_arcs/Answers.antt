@@ -2,8 +2,8 @@ use Rattle.std.proofs.Common.{sym, ◌∙◌, arith}
 use Rattle.linear.specs.Sums.{fold}
 use Rattle.forms.proofs.Continuing.{none_put, then_put, as_put}
 use Rattle.forms.proofs.Writing.{arc_more, arc_none}
-use Rattle.forms.proofs.encoding.Records.put_arcs.Goals as goal
-use Rattle.forms.proofs.encoding.Records.put_arcs.Goals.{then-c-ne0, else-c-ne0}
+use Rattle.forms.proofs.encoding.Encoder.put_arcs.Goals as goal
+use Rattle.forms.proofs.encoding.Encoder.put_arcs.Goals.{then-c-ne0, else-c-ne0}
 
 pub loop-t-init : goal.loop-t-init
 unfolding fold

@@ -1,6 +1,6 @@
 use Rattle.std.proofs.Common.{◌≡◌, length, refl, arith}
 use Rattle.forms.proofs.Writing.{copied}
-use Rattle.forms.proofs.encoding.Records.put.Goals as goal
+use Rattle.forms.proofs.encoding.Encoder.put.Goals as goal
 
 pub returns-clause-puts : goal.returns-clause-puts
 returns-clause-puts c =

@@ -4,7 +4,7 @@ use Rattle.elimination.specs.Rows.{Rows}
 use Rattle.forms.proofs.Continuing.{none_put, then_put, as_put}
 use Rattle.forms.proofs.Filling.{part_long, part_read, row_moved}
 use Rattle.forms.proofs.Writing.{row_more}
-use Rattle.forms.proofs.encoding.Records.put_rows.Goals as goal
+use Rattle.forms.proofs.encoding.Encoder.put_rows.Goals as goal
 
 pub loop-k-init : goal.loop-k-init
 unfolding fold
