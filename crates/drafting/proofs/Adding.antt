@@ -23,7 +23,7 @@ module _ (M : ScaleModel) {S : Type 0} (code : S → Row) (ρ : ℕ → ℕ) (rs
     out = λ u. ap (λ (r : Row). up M (r u)) out ∙ up_zero M;
   }
 
-  summed_more : m < 128 → (k : ℕ) (r : Record) → r ≡ nth rs k → (w : List S) (o : Row) (w' : List S) (o' : Row) → Entered M code ρ r w o w' o' → Summed M code ρ rs k m w o
+  pub summed_more : m < 128 → (k : ℕ) (r : Record) → r ≡ nth rs k → (w : List S) (o : Row) (w' : List S) (o' : Row) → Entered M code ρ r w o w' o' → Summed M code ρ rs k m w o
       → Summed M code ρ rs (k + 1) m w' o'
   summed_more few k r is w o w' o' entered s =
       let e = subst (λ (x : Record). Entered M code ρ x w o w' o') is entered in

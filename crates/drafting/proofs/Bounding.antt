@@ -7,8 +7,9 @@ use Rattle.elimination.specs.Lift.{Inside}
 use Rattle.elimination.specs.Arithmetic.{Arithmetic}
 use Rattle.elimination.specs.Rows.{Rows, RowSet, Outside, added}
 use Rattle.elimination.proofs.Sums.{at, times_zero, zero_code}
-use Rattle.settling.specs.Draft.{Bounded}
+use Rattle.settling.specs.Draft.{Bounded, Ordered}
 use Rattle.drafting.specs.Drafts.{AddedIn, Ends}
+use Rattle.drafting.specs.Plan.{Placed}
 
 module _ (m : ℕ) (R R' : ℕ → Row) (I : Inside (m + 1) R) (h : ℕ) where
   pub inside_set : (f : Row) → RowSet R h f R' → Ends m f → Inside (m + 1) R'
@@ -52,3 +53,7 @@ module _ {S : Type 0} (code : S → Row) (w w' : List S) (m h : ℕ) (few : m < 
 pub ends_added : (F : Arithmetic) (m : ℕ) (f : Row) (c : ℕ) (t g : Row) → g ≡ added F f c t → Ends m f → Ends m t → Ends m g
 ends_added F m f c t g e a b p l =
     at e p ∙ ap₂ F.plus (a p l) (ap (F.times c) (b p l) ∙ times_zero F c) ∙ F.plus_zero 0 (zero_code F)
+
+-- a plan's positions are in order
+pub ordered : (ps : List ℕ) (k n m : ℕ) (pos place : List ℕ) → Placed ps k n m pos place → Ordered m pos
+ordered ps k n m pos place d = record { cells = λ t l. omega (arith, d.cells t l, d.steady); rising = d.rising }

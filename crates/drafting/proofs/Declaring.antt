@@ -1,5 +1,5 @@
--- The list of the positions of a patch's cells, and the codes of records.
-use Rattle.std.proofs.Common.{◌≡◌, ℕ, ◌+◌, ◌<◌, List, [], ◌∷◌, ◌++◌, length, get_or, set, sym, refl, ap, ◌∙◌, subst, inl, inr, arith, length-append, get_or-set_other, get_or-set_same}
+-- The cells that the first records of a patch declare, the list of their positions, and the codes of records.
+use Rattle.std.proofs.Common.{◌≡◌, ℕ, zero, suc, ◌+◌, ◌<◌, ◌≤◌, List, [], ◌∷◌, ◌++◌, length, get_or, take, set, sym, refl, ap, ◌∙◌, subst, inl, inr, arith, length-append, get_or-set_other, get_or-set_same}
 use Rattle.std.proofs.lemmas.List.{get_or_append_left, get_or-append-add}
 use Rattle.std.proofs.lemmas.Bool.{cases_eq}
 use Rattle.patch.specs.Admitted.{Admitted}
@@ -7,19 +7,39 @@ use Rattle.patch.specs.Faults.{position}
 use Rattle.patch.specs.Judging.{meant}
 use Rattle.patch.specs.Orders.{listed}
 use Rattle.patch.specs.Paths.{code}
-use Rattle.patch.specs.Records.{Record, records, declare, declared, nth}
+use Rattle.patch.specs.Records.{Record, cell, records, declare, declared, nth}
 use Rattle.patch.specs.declared.order.ScanOrder.{ScanOrder}
 use Rattle.patch.specs.declared.record.Record.{Record as Entry}
 use Rattle.patch.specs.declared.record.Record.TheVariants.{Cell}
-use Rattle.patch.proofs.Admitting.{admitted_patch}
-use Rattle.patch.proofs.Checked.{declared_more}
+use Rattle.patch.proofs.Admitting.{admitted_cells, admitted_patch}
+use Rattle.patch.proofs.Checked.{declared_more, declared_take}
 use Rattle.patch.proofs.Facts.{facts}
 use Rattle.patch.proofs.Numbers.{code_small}
 use Rattle.patch.proofs.Orders.{lawful}
 use Rattle.patch.proofs.Scanning.{no_cell}
 use Rattle.drafting.specs.Arcs.{Positions}
 
-positions_more : (order inputs ps : List ℕ) (i : ℕ) → length inputs < length ps → Positions order inputs ps
+-- no more than all records declare
+pub declared_first : (rs : List Record) (cells : List ℕ) (k : ℕ) → length (declared cells (take k rs)) ≤ length (declared cells rs)
+declared_first [] cells zero = omega arith
+declared_first [] cells (suc k) = omega arith
+declared_first (r ∷ rs) cells zero = declared_more (r ∷ rs) cells
+declared_first (r ∷ rs) cells (suc k) = declared_first rs (declare cells r) k
+
+module _ (rs : List Record) (k i : ℕ) (inside : k < length rs) (is : nth rs k ≡ cell i) where
+  -- one cell more
+  pub declared_cell : declared [] (take (k + 1) rs) ≡ declared [] (take k rs) ++ i ∷ []
+  declared_cell = declared_take rs [] k inside ∙ ap (declare (declared [] (take k rs))) is
+
+  pub declared_room : length (declared [] (take k rs)) < length (declared [] rs)
+  declared_room = omega (arith, declared_first rs [] (k + 1), ap length declared_cell, length-append (declared [] (take k rs)) (i ∷ []))
+
+-- fewer cells than there are places
+pub cell_below : (s : ScanOrder) (L q : ℕ) (bytes : List ℕ) → 0 < L → Admitted (listed s) L q bytes → (k i : ℕ) → k < length (records bytes) → cell i ≡ nth (records bytes) k
+    → length (declared [] (take k (records bytes))) + 1 < L
+cell_below s L q bytes z a k i l is = omega (arith, declared_room (records bytes) k i l (sym is), admitted_cells (listed s) L q bytes z a)
+
+pub positions_more : (order inputs ps : List ℕ) (i : ℕ) → length inputs < length ps → Positions order inputs ps
     → Positions order (inputs ++ i ∷ []) (set ps (length inputs) (position order i))
 positions_more order inputs ps i room before j l = elim (cases_eq j (length inputs)) [
   | inl e ↦ (

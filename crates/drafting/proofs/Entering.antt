@@ -13,7 +13,7 @@ use Rattle.elimination.specs.Lift.{Element, scalars, some_code, up, Grid}
 use Rattle.elimination.specs.Rows.{Rows, Outside}
 use Rattle.elimination.proofs.Grids.{rows_coded}
 use Rattle.elimination.proofs.Lifting.{up_plus}
-use Rattle.patch.specs.Records.{off, on, outlet}
+use Rattle.patch.specs.Records.{filler, cell, off, on, outlet}
 use Rattle.drafting.specs.Arcs.{only, Entered}
 use Rattle.drafting.specs.Drafts.{AddedAt, AddedIn}
 
@@ -108,3 +108,26 @@ module _ (M : ScaleModel) where
         where
           neg : d ≡ M.neg c
           neg = negative ∙ cond-true _ _ _ (lt-ltb c M.q few)
+
+    -- a filler and a cell bring nothing
+    pub enter_filler : (w : List S) (o : Row) → Entered M code ρ filler w o w o
+    enter_filler w o = record { off = λ h u l. still _ _ _ _ refl; dif = λ h u l. still _ _ _ _ no_dif; out = λ u. still _ _ _ _ refl }
+
+    pub enter_cell : (i : ℕ) (w : List S) (o : Row) → Entered M code ρ (cell i) w o w o
+    enter_cell i w o = record { off = λ h u l. still _ _ _ _ refl; dif = λ h u l. still _ _ _ _ no_dif; out = λ u. still _ _ _ _ refl }
+
+    pub enter_outlet : (t c : ℕ) (w : List S) (o o' : Row) → AddedAt M len o (ρ t) c o' → ρ t < len → c < M.q → ((p : ℕ) → o p < M.q) → Entered M code ρ (outlet t c) w o w o'
+    enter_outlet = entered_outlet
+
+    -- the arcs, where nothing changes outside of as many rows as hold the one that they come from
+    module _ (f t c : ℕ) (low : ρ f < 128) (to : ρ t < len) (few : c < M.q) (o : Row) where
+      pub enter_on : (w w' : List S) → AddedIn M len (Rows code w 128) (ρ f) (ρ t) c (Rows code w' 128) → ((n : ℕ) → ρ f < n → Outside code w 128 n w')
+          → Entered M code ρ (on f t c) w o w' o
+      enter_on w w' a out = entered_on (ρ f) low f t c to few o w w' a (out (ρ f + 1) (omega arith))
+
+      pub enter_off : (w w₁ w₂ : List S) (d : ℕ) → d ≡ M.neg c
+          → AddedIn M len (Rows code w 0) (ρ f) (ρ t) c (Rows code w₁ 0) → ((n : ℕ) → ρ f < n → Outside code w 0 n w₁)
+          → AddedIn M len (Rows code w₁ 128) (ρ f) (ρ t) d (Rows code w₂ 128) → ((n : ℕ) → ρ f < n → Outside code w₁ 128 n w₂)
+          → Entered M code ρ (off f t c) w o w₂ o
+      enter_off w w₁ w₂ d neg a₁ out₁ a₂ out₂ =
+          entered_off (ρ f) low f t c to few o w w₁ w₂ d (neg ∙ sym (cond-true _ _ _ (lt-ltb c M.q few))) a₁ (out₁ (ρ f + 1) (omega arith)) a₂ (out₂ (ρ f + 1) (omega arith))

@@ -10,3 +10,4 @@ pub mod Planning
 pub mod Positions
 pub mod Summing
 pub mod Tied
+pub mod Fronts

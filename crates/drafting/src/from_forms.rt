@@ -1,5 +1,5 @@
 // Drafts from forms: the sum of one form and a multiple of another, and a form with one input tied.
-ghost use Rattle.std.specs.Prelude.{◌≡◌, ℕ, ◌+◌, ◌<◌, ◌≤◌, ◌++◌, length, map};
+ghost use Rattle.std.specs.Prelude.{◌≡◌, ℕ, ◌+◌, ◌<◌, ◌≤◌, ◌++◌, length, map, slice_index};
 ghost use Rattle.drafting.specs.Arcs.{Positions};
 ghost use Rattle.drafting.specs.Forms.{Copied, Free, Held};
 ghost use Rattle.drafting.specs.Meaning.{DraftsSum, DraftsTied};
@@ -7,23 +7,24 @@ ghost use Rattle.drafting.specs.Plan.{PlacedBy};
 ghost use Rattle.elimination.specs.Rows.{Outside};
 ghost use Rattle.patch.specs.Faults.{position};
 ghost use Rattle.patch.specs.Orders.{listed};
-ghost use Rattle.settling.specs.Draft.{Bounded};
+ghost use Rattle.settling.specs.Draft.{Beyond, Bounded};
 ghost use Rattle.settling.specs.Settling.{Sound};
 
 use crate::form::FormView;
 use crate::part::Part;
 use crate::plan::{Plan, place_cells};
-use crate::rows::{clear_rows, moved_row};
+use crate::rows::{clear_work, moved_row, still_whole};
 use elimination::rows::add_times;
 use patch::ScanOrder;
 use settling::draft::{DIF, Draft, OFF};
-use settling::work::{Work, store};
+use settling::work::{Work, over, store};
 use strip::Strip;
 
 // Lists the positions of a form's cells.
 fn form_positions(inputs: &[u8], order: &ScanOrder, positions: &mut [u8])
     requires room { length inputs.now ≤ length positions.old }
-    ensures { Positions (listed order.now) inputs.now positions.new }
+    ensures listed { Positions (listed order.now) inputs.now positions.new }
+    ensures kept { (i : ℕ) → length inputs.now ≤ i → slice_index positions.new i ≡ slice_index positions.old i }
 {
     // kept: tried zip over positions.iter_mut(), after which nothing is known of what stands in positions
     for (j, input) in inputs.iter().enumerate() {
@@ -74,7 +75,7 @@ fn copy_cells<S: Strip>(
 }
 
 // Lays out the diagram of a + c × b.
-pub fn draft_sum<S: Strip>(
+fn draft_sum_work<S: Strip>(
     work: &mut Work<S>,
     order: &ScanOrder,
     a: &FormView<S>,
@@ -85,7 +86,7 @@ pub fn draft_sum<S: Strip>(
     ensures means { DraftsSum S.Codes.Scale.model S.code order.now a.now c b.now work.new result }
 {
     let plan = plan_forms(a.inputs, b.inputs, order);
-    clear_rows(work, plan.places.cells);
+    clear_work(work, plan.places.cells);
     let of_a = plan.part(0, a.inputs.len());
     let of_b = plan.part(a.inputs.len(), b.inputs.len());
     copy_cells(work, &of_a, a, None);
@@ -99,8 +100,27 @@ pub fn draft_sum<S: Strip>(
     }
 }
 
+// Lays out the diagram of a + c × b in the first 512 of the strips lent.
+pub fn draft_sum<S: Strip>(
+    work: &mut [S],
+    order: &ScanOrder,
+    a: &FormView<S>,
+    c: u8,
+    b: &FormView<S>,
+) -> Draft<S>
+    requires room { 512 ≤ length work.old }
+    ensures sound { Sound S.code S.len work.new result }
+    ensures means { DraftsSum S.Codes.Scale.model S.code order.now a.now c b.now work.new result }
+    ensures beyond { Beyond S.code work.old work.new }
+{
+    let work = over(work);
+    let draft = draft_sum_work(work, order, a, c, b);
+    still_whole(work);
+    draft
+}
+
 // Lays out the diagram of a form in which an input always reads as 1, or as 0.
-pub fn draft_tied<S: Strip>(
+fn draft_tied_work<S: Strip>(
     work: &mut Work<S>,
     order: &ScanOrder,
     form: &FormView<S>,
@@ -111,7 +131,7 @@ pub fn draft_tied<S: Strip>(
     ensures means { DraftsTied S.Codes.Scale.model S.code order.now form.now input on work.new result }
 {
     let plan = plan_forms(form.inputs, &[], order);
-    clear_rows(work, plan.places.cells);
+    clear_work(work, plan.places.cells);
     let part = plan.part(0, form.inputs.len());
     copy_cells(work, &part, form, Some((input, on)));
     let out = moved_row(form, 0, &part);
@@ -119,4 +139,23 @@ pub fn draft_tied<S: Strip>(
         places: plan.places,
         out,
     }
+}
+
+// Lays out the diagram of a form in which an input always reads as 1, or as 0, in the first 512 of the strips lent.
+pub fn draft_tied<S: Strip>(
+    work: &mut [S],
+    order: &ScanOrder,
+    form: &FormView<S>,
+    input: u8,
+    on: bool,
+) -> Draft<S>
+    requires room { 512 ≤ length work.old }
+    ensures sound { Sound S.code S.len work.new result }
+    ensures means { DraftsTied S.Codes.Scale.model S.code order.now form.now input on work.new result }
+    ensures beyond { Beyond S.code work.old work.new }
+{
+    let work = over(work);
+    let draft = draft_tied_work(work, order, form, input, on);
+    still_whole(work);
+    draft
 }

@@ -9,15 +9,15 @@ ghost use Rattle.patch.specs.Orders.{listed};
 ghost use Rattle.patch.specs.Paths.{code as code_of_record};
 ghost use Rattle.patch.specs.Records.{records, declared, cells_of};
 ghost use Rattle.patch.specs.Windows.{seen};
-ghost use Rattle.settling.specs.Draft.{Bounded};
+ghost use Rattle.settling.specs.Draft.{Beyond, Bounded};
 ghost use Rattle.settling.specs.Settling.{Sound};
 
 use crate::plan::{Plan, place_cells};
-use crate::rows::{add_at, add_in, clear_rows};
+use crate::rows::{add_at, add_in, clear_work, still_whole};
 use patch::{Patch, Record, ScanOrder, Setup};
 use scale::Scale;
 use settling::draft::{DIF, Draft, OFF};
-use settling::work::Work;
+use settling::work::{Work, over};
 use strip::Strip;
 
 // Lists the positions of the patch's cells, and answers how many there are.
@@ -108,8 +108,8 @@ pub fn setup<S: Strip>(order: &ScanOrder) -> Setup
     }
 }
 
-// Lays the patch's diagram out in the working strips.
-pub fn draft_patch<S: Strip>(work: &mut Work<S>, patch: &Patch) -> Draft<S>
+// Lays the patch's diagram out.
+fn draft_patch_work<S: Strip>(work: &mut Work<S>, patch: &Patch) -> Draft<S>
     requires places { patch.now.setup.places ≡ S.len }
     requires codes { patch.now.setup.codes ≡ S.Codes.Scale.model.q }
     ensures sound { Sound S.code S.len work.new result }
@@ -119,10 +119,25 @@ pub fn draft_patch<S: Strip>(work: &mut Work<S>, patch: &Patch) -> Draft<S>
     let mut positions = [0; 128];
     let count = cell_positions(patch, &mut positions);
     let plan = place_cells(&positions[..count], patch.order().count());
-    clear_rows(work, plan.places.cells);
+    clear_work(work, plan.places.cells);
     let out = add_records(work, &plan, patch);
     Draft {
         places: plan.places,
         out,
     }
+}
+
+// Lays the patch's diagram out in the first 512 of the working strips.
+pub fn draft_patch<S: Strip>(work: &mut [S], patch: &Patch) -> Draft<S>
+    requires room { 512 ≤ length work.old }
+    requires places { patch.now.setup.places ≡ S.len }
+    requires codes { patch.now.setup.codes ≡ S.Codes.Scale.model.q }
+    ensures sound { Sound S.code S.len work.new result }
+    ensures drafts { Drafts S.Codes.Scale.model S.code work.new result (length (listed patch.now.setup.order)) (patch_rule S.Codes.Scale.model patch.now.setup.order (seen patch.now)) }
+    ensures beyond { Beyond S.code work.old work.new }
+{
+    let work = over(work);
+    let draft = draft_patch_work(work, patch);
+    still_whole(work);
+    draft
 }

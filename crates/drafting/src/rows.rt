@@ -3,14 +3,14 @@ ghost use Rattle.std.specs.Prelude.{◌≡◌, ℕ, ◌+◌, ◌<◌, ◌≤◌,
 ghost use Rattle.drafting.specs.Drafts.{AddedAt, AddedIn, Blank, Ends};
 ghost use Rattle.drafting.specs.Forms.{place_of, Moved};
 ghost use Rattle.elimination.specs.Rows.{Rows, Outside};
-ghost use Rattle.settling.specs.Draft.{Bounded};
+ghost use Rattle.settling.specs.Draft.{Beyond, Bounded};
 
 use crate::form::FormView;
 use crate::part::Part;
 use elimination::rows::{row, store};
 use scale::Scale;
 use settling::draft::{DIF, OFF};
-use settling::work::{Work, wipe};
+use settling::work::{Work, over, wipe};
 use strip::Strip;
 
 // Adds c to the code at a place.
@@ -57,7 +57,7 @@ pub fn moved_row<S: Strip>(form: &FormView<S>, t: usize, part: &Part) -> S
 }
 
 // Makes the rows of a draft of m cells blank.
-pub fn clear_rows<S: Strip>(work: &mut Work<S>, m: usize)
+pub(crate) fn clear_work<S: Strip>(work: &mut Work<S>, m: usize)
     requires few { m ≤ 127 }
     ensures blank { Blank S.code work.new m }
     ensures bounded { Bounded S.code work.new m }
@@ -65,3 +65,22 @@ pub fn clear_rows<S: Strip>(work: &mut Work<S>, m: usize)
     wipe(work, OFF, m + 1);
     wipe(work, DIF, m + 1);
 }
+
+// The same in the first 512 of the strips lent.
+pub fn clear_rows<S: Strip>(work: &mut [S], m: usize)
+    requires room { 512 ≤ length work.old }
+    requires few { m ≤ 127 }
+    ensures blank { Blank S.code work.new m }
+    ensures bounded { Bounded S.code work.new m }
+    ensures beyond { Beyond S.code work.old work.new }
+{
+    let work = over(work);
+    clear_work(work, m);
+    still_whole(work);
+}
+
+// Working memory has as many strips as before, whatever was written to it.
+// kept: as in `settling::work`, for a proof that has passed the array to a call.
+pub(crate) fn still_whole<S: Strip>(work: &Work<S>)
+    ensures { length work.now ≡ 512 }
+{}

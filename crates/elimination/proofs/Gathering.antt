@@ -1,5 +1,5 @@
 -- A sum of multiples of rows, row by row: what a loop over the rows of a list from one of them on adds.
-use Rattle.std.proofs.Common.{◌≡◌, ℕ, ◌+◌, ◌-◌, ◌<◌, List, length, drop, get_or, sym, ap, ◌∙◌, ap₂, add-one, arith, length-drop}
+use Rattle.std.proofs.Common.{◌≡◌, ℕ, ◌+◌, ◌-◌, ◌<◌, List, length, drop, take, get_or, sym, ap, ◌∙◌, ap₂, add-one, arith, length-drop}
 use Rattle.std.proofs.lemmas.List.{get_or-drop}
 use Rattle.std.proofs.lemmas.List.FromFn.{length-enumerate_from, get_or-enumerate_from}
 use Rattle.std.specs.List.{enumerate_from}
@@ -11,7 +11,7 @@ use Rattle.strip.specs.Row.{Row}
 use Rattle.elimination.specs.Arithmetic.{arithmetic}
 use Rattle.elimination.specs.Lift.{up, scalars}
 use Rattle.elimination.specs.Rows.{added, rows_in}
-use Rattle.elimination.proofs.Tables.{row_at}
+use Rattle.elimination.proofs.Tables.{row_at, row_read, row_take, row_drop}
 use Rattle.elimination.proofs.Lifting.{up_added, up_is_zero}
 use Rattle.elimination.proofs.Sums.{Coded, at}
 
@@ -51,3 +51,9 @@ module _ (M : ScaleModel) (r : Row) (R : ℕ → Row) (from : ℕ) where
         let none : (scalars M).times (up M (r (from + n))) (up M (R (from + n) p)) ≡ (scalars M).zero =
         ap (λ k. (scalars M).times k (up M (R (from + n) p))) (up_is_zero M (ap r (sym place) ∙ z)) ∙ zero_times (scalars M) _ in
         rw add-one (before p ∙ ap ((scalars M).plus (up M (f p))) (sym (ap ((scalars M).plus _) none ∙ (scalars M).plus_zero _)))
+
+-- the row at n of what a list has from one of its rows on
+pub part_row : {S : Type 0} (code : S → Row) (rows rest : List S) (from n : ℕ) (x : S) → rest ≡ take (length rows - from) (drop from rows) → length rest + from ≡ length rows
+    → n < length rest → x ≡ get_or rest n x → rows_in code rows (from + n) ≡ code x
+part_row {S} code rows rest from n x is long l e =
+    sym (ap (λ (xs : List S). rows_in code xs n) is ∙ row_take code (drop from rows) (length rows - from) n (omega arith) ∙ row_drop code rows from n) ∙ row_read code rest n x l e

@@ -45,6 +45,9 @@ module _ {S : Type 0} (code : S → Row) where
   unfolding Rows
   rows_other xs base i k x n = set_other code xs (base + i) x (base + k) (omega arith)
 
+  pub row_set : (xs : List S) (base i : ℕ) (x : S) → base + i < length xs → RowSet (Rows code xs base) i (code x) (Rows code (set xs (base + i) x) base)
+  row_set xs base i x l = record { here = rows_same xs base i x l; rest = λ k n. rows_other xs base i k x n }
+
   pub set_outside : (xs : List S) (base len i : ℕ) (x : S) → i < len → Outside code xs base len (set xs (base + i) x)
   unfolding Rows
   set_outside xs base len i x l =

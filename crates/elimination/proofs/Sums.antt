@@ -12,6 +12,29 @@ Coded F f = (p : ℕ) → f p < F.q
 pub at : {f g : Row} → f ≡ g → (p : ℕ) → f p ≡ g p
 at e p = ap (λ (k : Row). k p) e
 
+pub first_unique : (len : ℕ) (f : Row) (h k : ℕ) → First len f h → First len f k → h ≡ k
+first_unique len f h k a b =
+    elim (dec_lt h k) [
+      | yes l ↦ absurd (a.found (omega arith) (b.before h l))
+      | no m ↦
+          elim (dec_lt k h) [
+            | yes l ↦ absurd (b.found (omega arith) (a.before k l))
+            | no n ↦ omega arith
+          ]
+    ]
+
+-- once the first filled place is cleared, the next one is later
+pub first_rises : (len : ℕ) (f g : Row) (h k : ℕ) → h < len → First len f h → g h ≡ 0 → ((p : ℕ) → (p ≡ h → ⊥) → g p ≡ f p) → First len g k → h < k
+first_rises len f g h k l a z rest b =
+    elim (dec_lt h k) [
+      | yes o ↦ o
+      | no o ↦
+          elim (ℕ_discrete k h) [
+            | yes e ↦ absurd (b.found (omega arith) (ap g e ∙ z))
+            | no n ↦ absurd (b.found (omega arith) (rest k n ∙ a.before k (omega arith)))
+          ]
+    ]
+
 module _ (F : Arithmetic) where
   open F use {q, plus, times, neg, inv, one_code, plus_code, times_code, neg_code, inv_code, plus_comm, times_comm, times_assoc, plus_assoc, plus_zero, times_one, plus_neg, times_inv, times_plus}
 

@@ -17,6 +17,9 @@ module _ (F : Arithmetic) where
   pub same_trans : (len : ℕ) (R R' R'' : ℕ → Row) → SameSpan F len R R' → SameSpan F len R' R'' → SameSpan F len R R''
   same_trans len R R' R'' a b = record { to = λ f s. b.to f (a.to f s); from = λ f s. a.from f (b.from f s) }
 
+  pub same_refl : (len : ℕ) (R : ℕ → Row) → SameSpan F len R R
+  same_refl len R = record { to = λ f s. s; from = λ f s. s }
+
   module _ (len : ℕ) (R : ℕ → Row) where
     pub span_zeros : InSpan F len R zeros
     span_zeros = record { coef = zeros; is = λ p. sym (combine_blank F len zeros R (λ _. refl) p) }
@@ -79,6 +82,17 @@ module _ (F : Arithmetic) where
                 (λ i l. ap (λ x. times x (A i p)) (sym (with_rest m c b.coef i (omega arith)))))
                 (ap₂ times (sym (with_here m c b.coef)) (sym (at e p)));
           }
+
+  -- the rows of A count only below m
+  pub spans_rows : (m : ℕ) (A B : ℕ → Row) (n : ℕ) (R : ℕ → Row) → ((h : ℕ) → h < m → B h ≡ A h) → SpansAs F m B n R → SpansAs F m A n R
+  spans_rows m A B n R e s =
+      record {
+        to = λ f t. s.to f (record { coef = t.coef; is = λ p. t.is p ∙ sum_same F m _ _ (λ h l. ap (times (t.coef h)) (sym (at (e h l) p))) });
+        from = λ f t. let u = s.from f t in record { coef = u.coef; is = λ p. u.is p ∙ sum_same F m _ _ (λ h l. ap (times (u.coef h)) (at (e h l) p)) };
+      }
+
+  pub spans_trans : (m : ℕ) (A : ℕ → Row) (n : ℕ) (R R' : ℕ → Row) → SpansAs F m A n R → SameSpan F n R R' → SpansAs F m A n R'
+  spans_trans m A n R R' a b = record { to = λ f s. b.to f (a.to f s); from = λ f s. a.from f (b.from f s) }
 
   module _ (len : ℕ) (R R' : ℕ → Row) (hr : (h : ℕ) → Coded F (R h)) (hr' : (h : ℕ) → Coded F (R' h)) (shape : Echelon len R) (h : ℕ) (l : h < len) where
     module _ (filled : R h h ≢ 0) (set : RowSet R h (scaled F (inv (R h h)) (R h)) R') where
@@ -183,6 +197,14 @@ module _ (F : Arithmetic) where
         where
           same : (k p : ℕ) → p < h → R' k p ≡ R k p
           same k p b = sweep_kept k p (shape.low h p l b)
+
+-- nothing to do at a place with no row
+pub tidy_empty : (len : ℕ) (R : ℕ → Row) (h : ℕ) → R h h ≡ 0 → Tidy h len R → Tidy (h + 1) len R
+tidy_empty len R h z t =
+    record {
+      heads = λ j b n. elim (ℕ_discrete j h) [ yes e ↦ absurd (n (subst (λ m. R m m ≡ 0) (sym e) z)) | no m ↦ t.heads j (omega arith) n ];
+      alone = λ j k b s m n. elim (ℕ_discrete j h) [ yes e ↦ absurd (n (subst (λ i. R i i ≡ 0) (sym e) z)) | no u ↦ t.alone j k (omega arith) s m n ];
+    }
 
 -- the rows above are cleared by the first of the rest
 pub swept_above : (F : Arithmetic) {S : Type 0} (code : S → Row) (xs xs' ys : List S) (h : ℕ) → length xs ≡ h → length xs' ≡ h

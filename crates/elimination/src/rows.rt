@@ -80,10 +80,12 @@ pub fn clear<S: Strip>(v: &mut S, row: &S, h: usize) -> u8
 pub fn gather<S: Strip>(rows: &[S], r: &S, from: usize, sum: &mut S)
     ensures { Gathered S.Codes.Scale.model (S.code r.now) (elements S.Codes.Scale.model (rows_in S.code rows.now)) from (length rows.now) (S.code sum.old) (S.code sum.new) }
 {
-    for (t, row) in rows.iter().enumerate().skip(from) {
-        let c = r.ask(t);
-        if c != 0 {
-            add_times(sum, c, row);
+    if let Some(rest) = rows.get(from..) {
+        for (i, row) in rest.iter().enumerate() {
+            let c = r.ask(from + i);
+            if c != 0 {
+                add_times(sum, c, row);
+            }
         }
     }
 }

@@ -1,17 +1,17 @@
 -- The strips of a slot, as they are read and written.
-use Rattle.std.proofs.Common.{◌≡◌, ℕ, zero, suc, min, cond, eqb, ◌+◌, ◌-◌, ◌<◌, ◌≤◌, List, [], ◌∷◌, ◌++◌, map, length, get_or, take, drop, set, replicate, sym, ap, ◌∙◌, subst, arith, length-set}
+use Rattle.std.proofs.Common.{◌≡◌, ℕ, zero, suc, min, cond, eqb, ◌+◌, ◌-◌, ◌<◌, ◌≤◌, List, [], ◌∷◌, ◌++◌, map, length, get_or, take, drop, set, sym, refl, ap, ◌∙◌, subst, arith, length-set}
 use borrow.Rule.Slice.PartMut.{put_mid}
 use mathlib.Core.Path.{fun_ext}
 use native.Mathlib.Decide.{ℕ_discrete, dec_lt}
 use Rattle.std.specs.List.{between, CopiedTo, SameBelow, SameFrom}
 use Rattle.std.proofs.lemmas.List.Edits.{get_or-between}
 use lib.ListN.{length-map}
-use Rattle.std.proofs.lemmas.List.{get_or_past, get_or_append_left, get_or-append_right, get_or-take, get_or-drop, get_or-replicate, length-append, length-take-le, length-drop}
+use Rattle.std.proofs.lemmas.List.{get_or_past, get_or_append_left, get_or-append_right, get_or-take, get_or-drop, length-append, length-take-le, length-drop}
 use Rattle.elimination.specs.Arithmetic.{arithmetic, zero_in}
 use Rattle.elimination.specs.Rows.{Rows, rows_in, Outside, scaled}
 use Rattle.elimination.proofs.Answering.{add_answer}
 use Rattle.scale.specs.Model.{ScaleModel}
-use Rattle.elimination.proofs.Grids.{rows_at, rows_read, rows_same, set_outside}
+use Rattle.elimination.proofs.Grids.{rows_from, rows_at, rows_read, rows_same, rows_other, set_outside}
 use Rattle.std.proofs.lemmas.Bool.{cond-true, cond-false, ne_eqb, le-leb, lt-leb}
 use Rattle.strip.specs.Row.{Row, zeros, Added}
 use Rattle.forms.specs.Keeping.{Filled, form_rows, silent_rows}
@@ -23,6 +23,9 @@ module _ {S : Type 0} (code : S → Row) where
 
   pub row_read : (xs : List S) (k : ℕ) (x : S) → k < length xs → x ≡ get_or xs k x → code x ≡ Rows code xs 0 k
   row_read xs k x h e = ap code e ∙ sym (row_at xs k x h)
+
+  pub row_whole : (xs : List S) (k : ℕ) → Rows code xs 0 k ≡ rows_in code xs k
+  row_whole xs k = let e : 0 + k ≡ k = omega arith in sym (rows_from code xs 0 k) ∙ ap (rows_in code xs) e
 
   -- where two lists hold the same, they have the same row
   pub row_same : (xs ys : List S) (b k c j : ℕ) → ((d : S) → get_or ys (b + k) d ≡ get_or xs (c + j) d) → b + k < length ys → c + j < length xs → Rows code ys b k ≡ Rows code xs c j
@@ -95,25 +98,84 @@ cell_row outlet cells rows k z l = cond-false _ _ _ (ne_eqb k 0 (λ e. omega ari
 pub no_cell_row : (outlet : Row) (cells : ℕ) (rows : ℕ → Row) (k : ℕ) → 0 < k → cells < k → form_rows outlet cells rows k ≡ zeros
 no_cell_row outlet cells rows k z l = cond-false _ _ _ (ne_eqb k 0 (λ e. omega arith)) ∙ cond-false _ _ _ (lt-leb k cells l)
 
+-- the first n of the 32 strips from base on have these rows, and every other strip is as it was
+pub record Partly {S : Type 0} (code : S → Row) (n : ℕ) (strips : List S) (base : ℕ) (rows : ℕ → Row) (strips' : List S) : Type 0 where
+  pub here : (k : ℕ) → k < n → Rows code strips' base k ≡ rows k
+  pub later : (b k : ℕ) → base + n ≤ b + k → Rows code strips' b k ≡ Rows code strips b k
+  pub before : (b k : ℕ) → b + k < base → Rows code strips' b k ≡ Rows code strips b k
+  pub long : length strips' ≡ length strips
+
+-- a slot has the rows of no more than 31 cells
+pub most_rows : (outlet : Row) (cells : ℕ) (rows : ℕ → Row) (k : ℕ) → k < 32 → form_rows outlet (min cells 31) rows k ≡ form_rows outlet cells rows k
+most_rows outlet cells rows zero l = refl
+most_rows outlet cells rows (suc j) l = elim (dec_lt j cells) [
+  | yes h ↦ cell_row outlet (min cells 31) rows (suc j) (omega arith) (omega arith) ∙ sym (cell_row outlet cells rows (suc j) (omega arith) (omega arith))
+  | no h ↦ no_cell_row outlet (min cells 31) rows (suc j) (omega arith) (omega arith) ∙ sym (no_cell_row outlet cells rows (suc j) (omega arith) (omega arith))
+]
+
 module _ {S : Type 0} (code : S → Row) where
   pub start_row : (xs : List S) (base : ℕ) (x : S) → base < length xs → Rows code (set xs base x) base 0 ≡ code x
   start_row xs base x h = let e : base + 0 ≡ base = omega arith in ap (λ i. Rows code (set xs i x) base 0) (sym e) ∙ rows_same code xs base 0 x (omega arith)
 
-  start_outside : (xs : List S) (base n : ℕ) (x : S) → 0 < n → Outside code xs base n (set xs base x)
+  pub start_outside : (xs : List S) (base n : ℕ) (x : S) → 0 < n → Outside code xs base n (set xs base x)
   start_outside xs base n x z = let e : base + 0 ≡ base = omega arith in subst (λ i. Outside code xs base n (set xs i x)) e (set_outside code xs base n 0 x z)
 
   pub base_row : (xs : List S) (base : ℕ) (d : S) → base < length xs → Rows code xs base 0 ≡ code (get_or xs base d)
   base_row xs base d h = let e : base + 0 ≡ base = omega arith in rows_at code xs base 0 d (omega arith) ∙ ap (λ i. code (get_or xs i d)) e
 
-  -- 32 strips were made blank
-  pub blank_filled : (xs ys : List S) (b : S) → 32 ≤ length xs → ys ≡ replicate 32 b → code b ≡ zeros → Filled code xs 0 silent_rows (put_mid 0 32 xs ys)
-  blank_filled xs ys b h e z =
-      let long : length ys ≡ 32 = ap length e in
+  pub none_yet : (xs : List S) (base : ℕ) (rows : ℕ → Row) → Partly code 0 xs base rows xs
+  none_yet xs base rows = record { here = λ k l. absurd (omega arith); later = λ b k l. refl; before = λ b k l. refl; long = refl }
+
+  pub one_more : (n : ℕ) (xs ys : List S) (base : ℕ) (rows : ℕ → Row) (x : S) → base + n < length xs → Partly code n xs base rows ys → code x ≡ rows n
+      → Partly code (n + 1) xs base rows (set ys (base + n) x)
+  one_more n xs ys base rows x h p e =
+      let room : base + n < length ys = omega (arith, p.long) in
+      let out : Outside code ys base (n + 1) (set ys (base + n) x) = set_outside code ys base (n + 1) n x (omega arith) in
       record {
-        here = λ k l. mid_row code xs ys 0 32 (omega arith) long k l ∙ row_at code ys k b (omega arith) ∙ ap code (ap (λ zs. get_or zs k b) e ∙ get_or-replicate 32 k b b l) ∙ z;
-        outside = mid_outside code xs ys 0 32 (omega arith) long;
-        long = mid_long code xs ys 0 32 (omega arith) long;
+        here = λ k l. elim (ℕ_discrete k n) [
+          | yes s ↦ rw s (rows_same code ys base n x room ∙ e)
+          | no m ↦ rows_other code ys base n k x m ∙ p.here k (omega arith)
+        ];
+        later = λ b k l. out.after b k (omega arith) ∙ p.later b k (omega arith);
+        before = λ b k l. out.before b k l ∙ p.before b k l;
+        long = length-set ys (base + n) x ∙ p.long;
       }
+
+  -- the first strip is set before the rest is filled
+  pub first_set : (xs : List S) (base : ℕ) (rows : ℕ → Row) → Rows code xs base 0 ≡ rows 0 → Partly code 1 xs base rows xs
+  first_set xs base rows e =
+      record {
+        here = λ k l. let z : k ≡ 0 = omega arith in rw z e;
+        later = λ b k l. refl;
+        before = λ b k l. refl;
+        long = refl;
+      }
+
+  pub from_first : (n : ℕ) (xs ys : List S) (base : ℕ) (rows : ℕ → Row) (x : S) → 0 < n → Partly code n (set xs base x) base rows ys → Partly code n xs base rows ys
+  from_first n xs ys base rows x z p =
+      let out : Outside code xs base n (set xs base x) = start_outside xs base n x z in
+      record {
+        here = p.here;
+        later = λ b k l. p.later b k l ∙ out.after b k l;
+        before = λ b k l. p.before b k l ∙ out.before b k l;
+        long = p.long ∙ length-set xs base x;
+      }
+
+  pub all_filled : (n : ℕ) (xs ys : List S) (base : ℕ) (rows : ℕ → Row) → n ≡ 32 → Partly code n xs base rows ys → Filled code xs base rows ys
+  all_filled n xs ys base rows e p =
+      record {
+        here = λ k l. p.here k (omega arith);
+        outside = record { before = p.before; after = λ b k l. p.later b k (omega arith) };
+        long = p.long;
+      }
+
+  -- 32 strips were made blank
+  pub blank_filled : (xs ys : List S) → 32 ≤ length xs → length ys ≡ 32 → ((h : ℕ) → h < length ys → rows_in code ys h ≡ zeros) → Filled code xs 0 silent_rows (put_mid 0 32 xs ys)
+  blank_filled xs ys h long blank = record {
+    here = λ k l. mid_row code xs ys 0 32 (omega arith) long k l ∙ row_whole code ys k ∙ blank k (omega arith);
+    outside = mid_outside code xs ys 0 32 (omega arith) long;
+    long = mid_long code xs ys 0 32 (omega arith) long;
+  }
 
   -- 32 strips were copied to another place of their list
   pub strips_copied : (xs ys : List S) (from to : ℕ) → from + 32 ≤ length xs → to + 32 ≤ length xs → length ys ≡ length xs
@@ -140,34 +202,73 @@ module _ {S : Type 0} (code : S → Row) where
         long = length-set ys base o ∙ f.long;
       }
 
-  -- and the rows of the cells are copied from the working strips, behind a blank slot's outlet
-  module _ (xs ys work mid : List S) (outlet : Row) (cells : ℕ) (few : cells ≤ 31) (room : 512 ≤ length work) (wide : 32 ≤ length xs)
-      (is : mid ≡ between 289 (289 + cells) work) (f : Filled code xs 0 (λ k. cond (eqb k 0) outlet zeros) ys) where
+  -- the same by rows that are equal
+  pub same_rows : (xs ys : List S) (base : ℕ) (rows rows' : ℕ → Row) → ((k : ℕ) → k < 32 → rows k ≡ rows' k) → Filled code xs base rows ys → Filled code xs base rows' ys
+  same_rows xs ys base rows rows' e f = record { here = λ k l. f.here k l ∙ e k l; outside = f.outside; long = f.long }
+
+  -- the outlet is set, the rows of the cells are copied from the working strips, and the strips behind them are made blank
+  module _ (xs work mid : List S) (o : S) (cells : ℕ) (few : cells ≤ 31) (room : 512 ≤ length work) (wide : 32 ≤ length xs) (is : mid ≡ between 289 (289 + cells) work) where
+    abbrev one : List S
+    one = set xs 0 o
+
+    abbrev two : List S
+    two = put_mid 1 cells one mid
+
+    outlet_out : Outside code xs 0 32 one
+    outlet_out = start_outside xs 0 32 o (omega arith)
+
     long : length mid ≡ cells
     long = ap length is ∙ part_long code work 289 (289 + cells) (omega arith) ∙ omega arith
 
-    out : Outside code ys 1 cells (put_mid 1 cells ys mid)
-    out = mid_outside code ys mid 1 cells (omega (arith, f.long)) long
+    cells_fit : 1 + cells ≤ length one
+    cells_fit = omega (arith, length-set xs 0 o)
+
+    two_long : length two ≡ length xs
+    two_long = mid_long code one mid 1 cells cells_fit long ∙ length-set xs 0 o
+
+    cells_out : Outside code one 1 cells two
+    cells_out = mid_outside code one mid 1 cells cells_fit long
 
     -- the row of cell suc j
-    cell_copied : (j : ℕ) → j < cells → Rows code (put_mid 1 cells ys mid) 0 (suc j) ≡ Rows code work 288 (suc j)
+    cell_copied : (j : ℕ) → j < cells → Rows code two 0 (suc j) ≡ Rows code work 288 (suc j)
     cell_copied j h =
-        row_moved code (put_mid 1 cells ys mid) 0 (suc j) 1 j (omega arith) ∙ mid_row code ys mid 1 cells (omega (arith, f.long)) long j h
+        row_moved code two 0 (suc j) 1 j (omega arith) ∙ mid_row code one mid 1 cells cells_fit long j h
         ∙ ap (λ zs. Rows code zs 0 j) is ∙ row_part code work 289 (289 + cells) j (omega arith) (omega arith) ∙ row_moved code work 289 j 288 (suc j) (omega arith)
 
-    row_is : (k : ℕ) → k < 32 → Rows code (put_mid 1 cells ys mid) 0 k ≡ form_rows outlet cells (Rows code work 288) k
-    row_is zero l = out.before 0 0 (omega arith) ∙ f.here 0 (omega arith)
-    row_is (suc j) l = elim (dec_lt j cells) [
-      | yes h ↦ cell_copied j h ∙ sym (cell_row outlet cells (Rows code work 288) (suc j) (omega arith) (omega arith))
-      | no h ↦ out.after 0 (suc j) (omega arith) ∙ f.here (suc j) l ∙ cond-false _ _ _ (ne_eqb (suc j) 0 (λ e. omega arith)) ∙ sym (no_cell_row outlet cells (Rows code work 288) (suc j) (omega arith) (omega arith))
-    ]
+    module _ (none : List S) (same : length none ≡ length (between (cells + 1) 32 two)) (blank : (h : ℕ) → h < length none → rows_in code none h ≡ zeros) where
+      abbrev left : ℕ
+      left = 32 - (cells + 1)
 
-    pub cells_copied : Filled code xs 0 (form_rows outlet cells (Rows code work 288)) (put_mid 1 cells ys mid)
-    cells_copied = record {
-      here = row_is;
-      outside = record { before = λ b k l. absurd (omega arith); after = λ b k l. out.after b k (omega arith) ∙ f.outside.after b k l };
-      long = mid_long code ys mid 1 cells (omega (arith, f.long)) long ∙ f.long;
-    }
+      abbrev three : List S
+      three = put_mid (cells + 1) left two none
+
+      left_long : length none ≡ left
+      left_long = same ∙ part_long code two (cells + 1) 32 (omega (arith, two_long))
+
+      left_fits : cells + 1 + left ≤ length two
+      left_fits = omega (arith, two_long)
+
+      left_out : Outside code two (cells + 1) left three
+      left_out = mid_outside code two none (cells + 1) left left_fits left_long
+
+      row_is : (k : ℕ) → k < 32 → Rows code three 0 k ≡ form_rows (code o) cells (Rows code work 288) k
+      row_is zero l = left_out.before 0 0 (omega arith) ∙ cells_out.before 0 0 (omega arith) ∙ start_row xs 0 o (omega arith)
+      row_is (suc j) l = elim (dec_lt j cells) [
+        | yes h ↦ left_out.before 0 (suc j) (omega arith) ∙ cell_copied j h ∙ sym (cell_row (code o) cells (Rows code work 288) (suc j) (omega arith) (omega arith))
+        | no h ↦
+            row_moved code three 0 (suc j) (cells + 1) (j - cells) (omega arith) ∙ mid_row code two none (cells + 1) left left_fits left_long (j - cells) (omega arith)
+            ∙ row_whole code none (j - cells) ∙ blank (j - cells) (omega (arith, left_long)) ∙ sym (no_cell_row (code o) cells (Rows code work 288) (suc j) (omega arith) (omega arith))
+      ]
+
+      pub form_kept : Filled code xs 0 (form_rows (code o) cells (Rows code work 288)) three
+      form_kept = record {
+        here = row_is;
+        outside = record {
+          before = λ b k l. absurd (omega arith);
+          after = λ b k l. left_out.after b k (omega arith) ∙ cells_out.after b k (omega arith) ∙ outlet_out.after b k l;
+        };
+        long = mid_long code two none (cells + 1) left left_fits left_long ∙ two_long;
+      }
 
 -- a multiple added to a blank row is that multiple
 pub weighed_row : (M : ScaleModel) (f : Row) (c : ℕ) (t g : Row) → f ≡ zeros → ((p : ℕ) → t p < M.q) → Added M f c t g → g ≡ scaled (arithmetic M) c t

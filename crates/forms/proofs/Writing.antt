@@ -1,5 +1,5 @@
 -- The bytes of a form, part by part, as the loops write them.
-use Rattle.std.proofs.Common.{◌≡◌, ℕ, zero, suc, ◌+◌, ◌-◌, ◌≤◌, Bool, true, false, cond, eqb, ◌≢◌, List, [], ◌∷◌, ◌++◌, length, get_or, take, drop, sym, refl, ap, ◌∙◌, ap₂, arith, take_all}
+use Rattle.std.proofs.Common.{◌≡◌, ℕ, zero, suc, ◌+◌, ◌-◌, ◌≤◌, Bool, true, false, cond, eqb, ◌≢◌, List, [], ◌∷◌, ◌++◌, length, get_or, take, drop, set, sym, refl, ap, ◌∙◌, ap₂, arith, take_all}
 use lib.Seq.{take-append-le}
 use Rattle.std.proofs.lemmas.List.{append_assoc, append-nil, length-append, length-take-le, take-append-drop, drop-drop}
 use borrow.Rule.Slice.PartMut.{put_mid}
@@ -73,6 +73,19 @@ arc_more mark from row t c e n =
 
 pub arc_none : (mark from : ℕ) (row : Row) (t : ℕ) → row t ≡ 0 → arc_bytes mark from row t ≡ arc_bytes mark from row (t + 1)
 arc_none mark from row t e = sym (fold_more [] ◌++◌ t _ ∙ ap (◌++◌ (arc_bytes mark from row t)) (cond-true _ _ _ (eq-eqb (row t) 0 e)) ∙ append-nil _)
+
+-- four bytes, one after another
+pub four_laid : (out xs : List ℕ) (at : ℕ) → length xs ≡ 4
+    → set (set (set (set out at (get_or xs 0 0)) (at + 1) (get_or xs 1 0)) (at + 2) (get_or xs 2 0)) (at + 3) (get_or xs 3 0) ≡ laid out at xs
+four_laid out (a ∷ b ∷ c ∷ d ∷ []) at h =
+    let two : at + 2 ≡ at + 1 + 1 = omega arith in
+    let three : at + 3 ≡ at + 1 + 1 + 1 = omega arith in
+    ap₂ (λ i j. set (set (set (set out at a) (at + 1) b) i c) j d) two three
+four_laid out (a ∷ b ∷ c ∷ d ∷ e ∷ xs) at h = absurd (omega arith)
+four_laid out (a ∷ b ∷ c ∷ []) at h = absurd (omega arith)
+four_laid out (a ∷ b ∷ []) at h = absurd (omega arith)
+four_laid out (a ∷ []) at h = absurd (omega arith)
+four_laid out [] at h = absurd (omega arith)
 
 -- a text that was copied to a place of an output was put there
 pub copied : (out text ys : List ℕ) (p n end : ℕ) → ys ≡ text → n ≡ length text → end ≡ p + length text → end ≤ length out → Put out p text (put_mid p n out ys) end

@@ -3,19 +3,21 @@ ghost use Rattle.std.specs.Prelude.{ℕ, ◌+◌, ◌≤◌, length};
 ghost use Rattle.elimination.specs.Rows.{Rows};
 ghost use Rattle.forms.specs.Keeping.{Filled, form_rows, weighed_rows, silent_rows};
 
-use settling::draft::{CAN, Form};
+use elimination::reduced_form::wipe;
+use settling::draft::CAN;
 use strip::Strip;
 
-// Puts a settled form from the working strips into the 32 strips of a slot; strips without a cell become blank.
-pub fn keep_form<S: Strip>(slot: &mut [S], work: &[S], form: &Form<S>)
+// Puts a settled form, by its outlet and by how many cells it has in the working strips, into the 32 strips of a slot.
+// A slot has room for 31 cells: of more, the first 31 are kept. Strips without a cell become blank.
+pub fn keep_form<S: Strip>(slot: &mut [S], work: &[S], outlet: &S, cells: usize)
     requires slot { 32 ≤ length slot.old }
     requires room { 512 ≤ length work.now }
-    ensures { Filled S.code slot.old 0 (form_rows (S.code form.now.out) form.now.places.cells (Rows S.code work.now 288)) slot.new }
+    ensures { Filled S.code slot.old 0 (form_rows (S.code outlet.now) cells (Rows S.code work.now 288)) slot.new }
 {
-    let cells = form.places.cells;
-    keep_silent(slot);
-    slot[0] = form.out;
-    slot[1..cells + 1].copy_from_slice(&work[CAN + 1..CAN + 1 + cells]);
+    let most = cells.min(31);
+    slot[0] = *outlet;
+    slot[1..most + 1].copy_from_slice(&work[CAN + 1..CAN + 1 + most]);
+    wipe(&mut slot[most + 1..32]);
 }
 
 // Makes the 32 strips from `to` on those from `from` on, with c times the outlet.
@@ -36,6 +38,5 @@ pub fn keep_silent<S: Strip>(slot: &mut [S])
     requires slot { 32 ≤ length slot.old }
     ensures { Filled S.code slot.old 0 silent_rows slot.new }
 {
-    // kept: tried as `fill`, which asks for a clone that cannot fail, and the trait Strip does not say that of one
-    slot[..32].copy_from_slice(&[S::blank(); 32]);
+    wipe(&mut slot[..32]);
 }

@@ -1,7 +1,8 @@
 // Answers as lines of text.
 use crate::script::Fault;
+use crate::words::hex_char;
 use drafting::setup;
-use patch::{Patch, Refusal, ScanOrder, listing};
+use patch::{Patch, Refusal, ScanOrder, listing, refusal_line};
 use rack::{Answer, Outcome};
 use std::alloc::{AllocError, Global};
 use std::fmt::Display;
@@ -9,6 +10,9 @@ use strip::Strip;
 
 // Room for the listing of every settled form.
 const LISTING_ROOM: usize = 65536;
+
+// Room for the line of every refusal.
+const LINE_ROOM: usize = 64;
 
 // The lines so far. They are kept as bytes, for a word of a script that is named in an error need be no text.
 #[derive(Drop)]
@@ -46,36 +50,44 @@ impl Report {
     pub fn error(&mut self, line: usize, fault: &Fault) -> Result<(), AllocError> {
         write!(self, "error {line} ")?;
         match fault {
-            Fault::UnknownCall => writeln!(self, "unknown call"),
-            Fault::WordCount => writeln!(self, "wrong number of words"),
+            Fault::UnknownCall => self.lines.extend_from_slice(b"unknown call\n"),
+            Fault::WordCount => self.lines.extend_from_slice(b"wrong number of words\n"),
             Fault::NoNumber(word) => self.no(word, "number"),
             Fault::NoScale(word) => self.no(word, "scale"),
             Fault::NoHexadecimal(word) => self.no(word, "hexadecimal"),
-            Fault::NoRack => writeln!(self, "no rack is open"),
+            Fault::NoRack => self.lines.extend_from_slice(b"no rack is open\n"),
         }
     }
 
+    // kept: by `refusal_line`, which is proved to put the line with its end, and asks for no text on the heap.
     pub fn refusal(&mut self, refusal: &Refusal) -> Result<(), AllocError> {
-        writeln!(self, "{refusal}")
+        let mut line = [0; LINE_ROOM];
+        match refusal_line(refusal, &mut line) {
+            Ok(n) => self.lines.extend_from_slice(&line[..n]),
+            Err(_) => Ok(()),
+        }
     }
 
     // Bytes in hexadecimal, `-` for none.
+    // kept: two digits pushed for a byte, since a text formatted for each byte takes many times as long.
     fn bytes(&mut self, bytes: &[u8]) -> Result<(), AllocError> {
-        write!(self, "bytes ")?;
+        self.lines.extend_from_slice(b"bytes ")?;
         if bytes.is_empty() {
-            write!(self, "-")?;
+            self.lines.push(b'-')?;
         }
         for b in bytes {
-            write!(self, "{b:02x}")?;
+            self.lines.push(hex_char(b >> 4))?;
+            self.lines.push(hex_char(b & 15))?;
         }
-        writeln!(self, "")
+        self.lines.extend_from_slice(b"\n")
     }
 
+    // kept: what is the same each time goes in as bytes, since `writeln!` makes a text on the heap first.
     fn answer(&mut self, answer: &Answer) -> Result<(), AllocError> {
         match answer {
-            Answer::Done => writeln!(self, "done"),
-            Answer::Agree(true) => writeln!(self, "yes"),
-            Answer::Agree(false) => writeln!(self, "no"),
+            Answer::Done => self.lines.extend_from_slice(b"done\n"),
+            Answer::Agree(true) => self.lines.extend_from_slice(b"yes\n"),
+            Answer::Agree(false) => self.lines.extend_from_slice(b"no\n"),
             Answer::Count(cells) => writeln!(self, "cells {cells}"),
             Answer::Heard { code, velocity } => writeln!(self, "sound {code} {velocity}"),
             Answer::Wrote(bytes) => self.bytes(bytes),

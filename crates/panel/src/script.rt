@@ -1,4 +1,6 @@
 // A line of a script: which call it asks for, or why it is none.
+ghost use Rattle.std.specs.Prelude.{◌≤◌, length};
+
 use crate::words::{hex_byte, number, words};
 use forms::ENCODED_ROOM;
 use rack::Press;
@@ -90,6 +92,7 @@ fn a_byte<'a>(word: &'a [u8]) -> Result<u8, Fault<'a>> {
 fn some_bytes<'a>(heap: Global, word: &'a [u8]) -> Result<Vec<u8>, Stop<'a>> {
     match word {
         b"-" => Ok(Vec::new(heap)),
+        _ if word.len() % 2 != 0 => Err(Stop::Fault(Fault::NoHexadecimal(word))),
         _ => word
             .chunks(2)
             .map(|pair| hex_byte(pair).ok_or(Stop::Fault(Fault::NoHexadecimal(word))))
@@ -98,10 +101,9 @@ fn some_bytes<'a>(heap: Global, word: &'a [u8]) -> Result<Vec<u8>, Stop<'a>> {
 }
 
 // The words before a last pair of this keyword and a number, and the word of the number; all words, if they end in no such pair.
-fn before_pair<'w, 'a>(
-    words: &'w [&'a [u8]],
-    keyword: &[u8],
-) -> (&'w [&'a [u8]], Option<&'a [u8]>) {
+fn before_pair<'w, 'a>(words: &'w [&'a [u8]], keyword: &[u8]) -> (&'w [&'a [u8]], Option<&'a [u8]>)
+    ensures { length (result.0).now ≤ length words.now }
+{
     match words {
         [before @ .., last_but_one, number] if *last_but_one == keyword => {
             (before, Some(*number))

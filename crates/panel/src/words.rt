@@ -12,12 +12,16 @@ pub fn words<'a>(heap: Global, line: &'a [u8]) -> Result<Vec<&'a [u8]>, AllocErr
         .collect(heap)
 }
 
-// The number that a word of decimal digits is, if it fits. Reading it as text alone would take a plus sign, too.
+// The number that a word of decimal digits is, if it fits.
+// kept: digit by digit, since `parse` takes a plus sign, too, and wants text: the word would be gone over three times.
 pub fn number(word: &[u8]) -> Option<u64> {
-    if !word.iter().all(|b| b.is_ascii_digit()) {
+    if word.is_empty() {
         return None;
     }
-    str::from_utf8(word).ok()?.parse().ok()
+    word.iter().try_fold(0u64, |n, b| {
+        let digit = char::from(*b).to_digit(10)?;
+        n.checked_mul(10)?.checked_add(u64::from(digit))
+    })
 }
 
 fn hex_digit(b: u8) -> Option<u8> {
@@ -30,4 +34,9 @@ pub fn hex_byte(pair: &[u8]) -> Option<u8> {
         return None;
     };
     Some(hex_digit(*high)? << 4 | hex_digit(*low)?)
+}
+
+// The digit of a number below 16.
+pub fn hex_char(n: u8) -> u8 {
+    b"0123456789abcdef"[usize::from(n & 15)]
 }

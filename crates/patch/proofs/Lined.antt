@@ -1,14 +1,32 @@
 -- The lines of a patch, one record more at a time. Assumes nothing.
-use Rattle.std.proofs.Common.{◌≡◌, ℕ, ◌+◌, ◌*◌, ◌≤◌, ◌≢◌, List, [], ◌∷◌, ◌++◌, length, sym, refl, ap, ◌∙◌, arith}
+use Rattle.std.proofs.Common.{◌≡◌, ℕ, zero, suc, ◌+◌, ◌*◌, ◌<◌, ◌≤◌, ◌≢◌, List, [], ◌∷◌, ◌++◌, length, take, sym, refl, ap, ◌∙◌, arith}
 use Rattle.std.proofs.lemmas.List.{append_assoc, append-nil, length_push}
 use Rattle.patch.specs.declared.record.Record.{Record as Entry}
 use Rattle.patch.specs.declared.record.Record.TheVariants.{Cell}
 use Rattle.patch.specs.Judging.{meant}
 use Rattle.patch.specs.Listing.{line, lines, or_silent}
 use Rattle.patch.specs.Output.{laid, Put}
-use Rattle.patch.specs.Records.{Record, declare}
+use Rattle.patch.specs.Records.{Record, declare, declared, nth}
 use Rattle.patch.proofs.Putting.{put_none, put_then, put_as}
 use Rattle.patch.proofs.Scanning.{no_cell}
+
+-- the lines of the first k + 1 records are those of the first k and then that of record k
+pub lines_more : (rs : List Record) (cells : List ℕ) (k : ℕ) → k < length rs
+    → lines cells (take (k + 1) rs) ≡ lines cells (take k rs) ++ line (length (declared cells (take (k + 1) rs))) (nth rs k)
+lines_more [] cells k h = absurd (omega arith)
+lines_more (r ∷ rs) cells zero h = go rs
+  where
+    go : (rs : List Record) → line (length (declare cells r)) r ++ lines (declare cells r) (take 0 rs) ≡ line (length (declared (declare cells r) (take 0 rs))) r
+    go [] = append-nil _
+    go (s ∷ ss) = append-nil _
+lines_more (r ∷ rs) cells (suc k) h =
+    let e : suc k + 1 ≡ suc (k + 1) = omega arith in
+    rw e (
+    ap (λ x. line (length (declare cells r)) r ++ x) (lines_more rs (declare cells r) k (omega arith))
+    ∙ sym (append_assoc (line (length (declare cells r)) r) (lines (declare cells r) (take k rs)) (line (length (declared (declare cells r) (take (k + 1) rs))) (nth rs k))))
+
+pub cell_more : (cells : List ℕ) (e : Entry) (i : ℕ) → e ≡ Cell i → length (declare cells (meant e)) ≡ length cells + 1
+cell_more cells e i h = ap (λ d. length (declare cells (meant d))) h ∙ length_push cells i
 
 -- Where the lines of the records rs stand: `o` is the output with a text in it up to `at`, `n` cells are declared, and `rest` is left.
 pub record Lining (out : List ℕ) (rs : List Record) (o : List ℕ) (at n : ℕ) (rest : List Record) : Type 0 where
@@ -25,7 +43,7 @@ lining_starts out rs = record { text = []; cells = []; put = put_none out 0; cou
 
 module _ {out : List ℕ} {rs : List Record} {o : List ℕ} {at n : ℕ} {rest : List Record} (S : Lining out rs o at n rest) where
   pub counts_cell : (e : Entry) (i : ℕ) → e ≡ Cell i → n + 1 ≡ length (declare S.cells (meant e))
-  counts_cell e i h = ap (λ m. m + 1) S.counted ∙ sym (ap (λ d. length (declare S.cells (meant d))) h ∙ length_push S.cells i)
+  counts_cell e i h = ap (λ m. m + 1) S.counted ∙ sym (cell_more S.cells e i h)
 
   pub counts_other : (e : Entry) → ((i : ℕ) → e ≡ Cell i → ⊥) → n ≡ length (declare S.cells (meant e))
   counts_other e h = S.counted ∙ sym (ap length (no_cell S.cells e h))

@@ -57,6 +57,18 @@ records_none (m ∷ a ∷ []) h = refl
 records_none (m ∷ a ∷ b ∷ []) h = refl
 records_none (m ∷ a ∷ b ∷ c ∷ rest) h = absurd (omega arith)
 
+-- One turn at record k, behind some cells, and what the check answers from there on: where it is told a refusal, that one; and else what it answers behind the record.
+module _ (order : List ℕ) (L q k : ℕ) (cells : List ℕ) (x : Record) {r : Result Entry Refusal} (says : Says x k r (fault order L q cells x)) where
+  pub stops : (rs : List Record) (e : Refusal) → r ≡ Err e → check_from order L q k cells (x ∷ rs) ≡ refused (number e) (place e)
+  stops rs e p =
+      let f = says_faulty e says p in cond-false _ _ _ (ne_eqb _ 0 f.2) ∙ ap (λ y. refused y k) f.0 ∙ ap (refused (number e)) (sym f.1)
+
+  pub next_cells : (e : Entry) → r ≡ Ok e → declare cells x ≡ declare cells (meant e)
+  next_cells e p = ap (declare cells) (sym (says_fine e says p).0)
+
+  pub goes_on : (rs : List Record) (e : Entry) → r ≡ Ok e → check_from order L q (k + 1) (declare cells (meant e)) rs ≡ check_from order L q k cells (x ∷ rs)
+  goes_on rs e p = ap (λ cs. check_from order L q (k + 1) cs rs) (sym (next_cells e p)) ∙ sym (cond-true _ _ _ (eq-eqb _ 0 (says_fine e says p).1))
+
 -- where the scan of some bytes stands before record k: `s` has the cells so far, and `rest` is left
 pub record Scanned (order : List ℕ) (L q : ℕ) (bytes : List ℕ) (s : Cells) (k : ℕ) (rest : List ℕ) : Type 0 where
   pub cells : List ℕ
@@ -80,12 +92,10 @@ module _ {order : List ℕ} {L q : ℕ} {bytes : List ℕ} {s : Cells} {k : ℕ}
     split = ap (check_from order L q k S.cells) (sym (ap records parts ∙ records_more xs more long)) ∙ S.same
 
     pub scan_stops : (e : Refusal) → r ≡ Err e → check_from order L q 0 [] (records bytes) ≡ refused (number e) (place e)
-    scan_stops e p =
-        let f = says_faulty e says p in sym split ∙ cond-false _ _ _ (ne_eqb _ 0 f.2) ∙ ap (λ x. refused x k) f.0 ∙ ap (refused (number e)) (sym f.1)
+    scan_stops e p = sym split ∙ stops order L q k S.cells (four xs) says (records more) e p
 
-    goes_on : (e : Entry) → r ≡ Ok e → check_from order L q (k + 1) (declare S.cells (meant e)) (records more) ≡ check_from order L q 0 [] (records bytes)
-    goes_on e p =
-        let f = says_fine e says p in ap (λ y. check_from order L q (k + 1) (declare S.cells y) (records more)) f.0 ∙ sym (cond-true _ _ _ (eq-eqb _ 0 f.1)) ∙ split
+    onward : (e : Entry) → r ≡ Ok e → check_from order L q (k + 1) (declare S.cells (meant e)) (records more) ≡ check_from order L q 0 [] (records bytes)
+    onward e p = goes_on order L q k S.cells (four xs) says (records more) e p ∙ split
 
     behind : 4 * (k + 1) + length more ≡ length bytes
     behind = omega (arith, S.left, ap length parts, length-append xs more)
@@ -96,7 +106,7 @@ module _ {order : List ℕ} {L q : ℕ} {bytes : List ℕ} {s : Cells} {k : ℕ}
       holds = S.holds;
       few = omega (arith, S.few);
       left = behind;
-      same = ap (λ cs. check_from order L q (k + 1) cs (records more)) (sym (no_cell S.cells e n)) ∙ goes_on e p;
+      same = ap (λ cs. check_from order L q (k + 1) cs (records more)) (sym (no_cell S.cells e n)) ∙ onward e p;
     }
 
     pub scan_cell : (e : Entry) (i : ℕ) (after : Cells) → r ≡ Ok e → e ≡ Cell i → after.count ≡ s.count + 1
@@ -106,7 +116,7 @@ module _ {order : List ℕ} {L q : ℕ} {bytes : List ℕ} {s : Cells} {k : ℕ}
       holds = holds_more s after S.cells i S.holds counts keeps;
       few = omega (arith, S.few);
       left = behind;
-      same = ap (λ d. check_from order L q (k + 1) (declare S.cells (meant d)) (records more)) (sym is) ∙ goes_on e p;
+      same = ap (λ d. check_from order L q (k + 1) (declare S.cells (meant d)) (records more)) (sym is) ∙ onward e p;
     }
 
 -- a record of a patch, as a program reads it

@@ -15,10 +15,13 @@ impl Output<'_> {
         requires { (self.old.at < 2 ^ 62) × (length text.now < 2 ^ 62) }
         ensures puts { Puts self.old text.now self.new }
     {
-        let end = self.at + text.len();
-        if self.at < self.out.len() {
-            let seen = end.min(self.out.len());
-            self.out[self.at..seen].copy_from_slice(&text[..seen - self.at]);
+        // kept: byte by byte, since most texts are a space, a newline or a digit, and to cut and copy slices takes more steps at each.
+        let mut end = self.at;
+        for b in text {
+            if end < self.out.len() {
+                self.out[end] = *b;
+            }
+            end += 1;
         }
         self.at = end;
     }

@@ -5,7 +5,7 @@
 
 use drafting::setup;
 use forms::ENCODED_ROOM;
-use patch::{Patch, Refusal, ScanOrder, listing};
+use patch::{Patch, Refusal, ScanOrder, listing, refusal_line};
 use rack::Rack;
 use rack::hold::STRIPS;
 use std::alloc::{AllocError, Global};
@@ -22,6 +22,9 @@ const SCAN_LIST: [u8; 24] = [
 
 // Room for the listing of every settled form.
 const LISTING_ROOM: usize = 65536;
+
+// Room for the line of every refusal.
+const LINE_ROOM: usize = 64;
 
 // Why there is no listing: the patch is refused, or there was no memory.
 // kept: apart from panel's, which stops for a fault of a line and not for a refusal.
@@ -61,10 +64,19 @@ fn settled_listing(heap: Global, bytes: &[u8]) -> Result<Vec<u8>, Stop> {
     Ok(text)
 }
 
+// The line of a refusal.
+// kept: by `refusal_line`, which is proved to put the line with its end.
+fn refused(heap: Global, refusal: &Refusal) -> Result<Vec<u8>, AllocError> {
+    let mut line = vec![in heap; 0u8; LINE_ROOM]?;
+    let n = refusal_line(refusal, &mut line).unwrap_or(0);
+    line.truncate(n);
+    Ok(line)
+}
+
 // The text to print.
 fn answer(heap: Global, bytes: &[u8]) -> Result<Vec<u8>, AllocError> {
     settled_listing(heap, bytes).or_else(|stop| match stop {
-        Stop::Refused(refusal) => Ok(format!(in heap; "{refusal}\n")?.into_bytes()),
+        Stop::Refused(refusal) => refused(heap, &refusal),
         Stop::Memory(error) => Err(error),
     })
 }

@@ -111,7 +111,7 @@ module _ (M : ScaleModel) {S : Type 0} (code : S → Row) (coded : (s : S) (p : 
             )
       ]
 
-      cellular' : Cellular code w₃ m j a
+      pub cellular' : Cellular code w₃ m j a
       cellular' = record {
         can = λ i q l b. cell_past i q l (omega (arith, num.many));
         img = λ h q l b k. elim (dec_lt h e) [
@@ -148,7 +148,7 @@ module _ (M : ScaleModel) {S : Type 0} (code : S → Row) (coded : (s : S) (p : 
           (images.done h l b).img u ∙ sum_cong (scalars M) (m + 1 - e) _ _ (λ i r. ap (λ x. (scalars M).times x (Grid M code w₀ 384 (e + i) u)) (backs.off h (e + i) b))
           ∙ sym (from_on (scalars M) (m + 1) e (off h) (Grid M code w₀ 384) (omega arith) (λ t k. derives.formed.off_later h t (omega arith) (omega arith) (up_to h t l b k)) u)
 
-      too_many : 33 ≤ size + rows R size → Least M (get_or pos m 0) f 33
+      pub too_many : 33 ≤ size + rows R size → Least M (get_or pos m 0) f 33
       too_many many E form agree =
           let need : size + (33 - size) ≤ E.places =
           at_least (scalars M) (get_or pos m 0) m D derives.formed refl f derives.reached C (Grid M code w₀ 384) a e some ends (order.cells a (omega arith))
@@ -194,7 +194,7 @@ module _ (M : ScaleModel) {S : Type 0} (code : S → Row) (coded : (s : S) (p : 
               elim (dec_lt h e) [ yes o ↦ o | no o ↦ absurd (omega (arith, later h (omega arith) l)) ],
             )
 
-        backs' : Backs M code (get_or pos m 0) m D f out' w₃ cpos' j a
+        pub backs' : Backs M code (get_or pos m 0) m D f out' w₃ cpos' j a
         backs' = record {
           off = λ h u l. ap (up M) (at (num.off h (omega arith) ∙ outside.before 0 h (omega arith) ∙ images.off h (omega arith)) u) ∙ backs.off h u (omega arith);
           dif = λ h u l. ap (up M) (at (num.dif h (omega arith) ∙ outside.before 128 h (omega arith) ∙ images.dif_before h l) u) ∙ backs.dif h u (omega arith);

@@ -9,3 +9,4 @@ pub mod Whole
 pub mod Places
 pub mod Storing
 pub mod Fitting
+pub mod Fronts

@@ -1,7 +1,14 @@
 -- Where the places of one position begin and end.
-use Rattle.std.proofs.Common.{◌≡◌, ℕ, ◌+◌, ◌-◌, ◌<◌, ◌≤◌, ◌≢◌, List, get_or, length, take, drop, sym, ap, ◌∙◌, arith, get_or-take, get_or-drop, length-take, length-drop}
+use Rattle.std.proofs.Common.{◌≡◌, ℕ, ◌+◌, ◌-◌, ◌<◌, ◌≤◌, ◌≢◌, List, get_or, length, take, drop, sym, ap, ◌∙◌, subst, arith, get_or-take, get_or-drop, length-take, length-drop}
 use native.Mathlib.Decide.{dec_lt}
 use Rattle.settling.specs.Draft.{Ordered, Block, Span}
+
+-- where they end or begin, by any other name of that place
+pub block_is : (m : ℕ) (pos : List ℕ) (h e e' : ℕ) → e' ≡ e → Block m pos h e → Block m pos h e'
+block_is m pos h e e' q b = subst (λ (x : ℕ). Block m pos h x) (sym q) b
+
+pub span_is : (pos : List ℕ) (a a' e : ℕ) → a' ≡ a → Span pos a e → Span pos a' e
+span_is pos a a' e q s = subst (λ (x : ℕ). Span pos x e) (sym q) s
 
 module _ (m : ℕ) (pos : List ℕ) (order : Ordered m pos) (wide : m < length pos) where
   -- the positions of the places from h on

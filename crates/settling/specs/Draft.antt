@@ -18,6 +18,10 @@ drawn m pos off dif out = record { places = m + 1; pos = λ t. slice_index pos t
 abbrev pub drafted : (M : ScaleModel) → {S : Type 0} → (S → Row) → List S → List ℕ → ℕ → Row → Diagram (Element M)
 drafted M code work pos m out = drawn m pos (Grid M code work 0) (Grid M code work 128) (vec M out)
 
+-- every strip from 512 on holds what it held
+abbrev pub Beyond : {S : Type 0} → (S → Row) → List S → List S → Type 0
+Beyond code work work' = (b k : ℕ) → 512 ≤ b + k → Rows code work' b k ≡ Rows code work b k
+
 -- earlier positions come first, and the steady place comes last, with the number of positions for its own
 pub record Ordered (m : ℕ) (pos : List ℕ) : Type 0 where
   pub cells : (t : ℕ) → t < m → slice_index pos t < slice_index pos m

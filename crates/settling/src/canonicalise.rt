@@ -1,13 +1,13 @@
 // Backward: the cells of each position, from the last to the first, are the reduced form of what its places gain.
-ghost use Rattle.std.specs.Prelude.{◌≡◌, ℕ, ◌+◌, ◌<◌, ◌≤◌, MatchOption, ◌≢◌, slice_index};
+ghost use Rattle.std.specs.Prelude.{◌≡◌, ℕ, ◌+◌, ◌<◌, ◌≤◌, MatchOption, ◌≢◌, length, slice_index};
 ghost use Rattle.strip.specs.Row.{zeros};
 ghost use Rattle.elimination.specs.Rows.{Rows};
 ghost use Rattle.settling.specs.Backing.{Pictured, Images, Marked, Added, rows, Numbered, Cellular, ExceedsAt, StepsTo};
-ghost use Rattle.settling.specs.Draft.{Span};
+ghost use Rattle.settling.specs.Draft.{Beyond, Span};
 ghost use Rattle.settling.specs.Settling.{DerivesDraft, rule_of, positions, Settled};
 
 use super::draft::{CAN, DIF, Draft, Form, FormPlaces, IMG, OFF, Places, Run, TAB, TooMany};
-use super::work::{Work, gather, pivot, reduced_form, row, store};
+use super::work::{Work, gather, over, pivot, reduced_form, row, still_whole, store};
 use strip::Strip;
 
 // The image and the gain of a place, over the images of the places from e on.
@@ -147,8 +147,8 @@ fn back_all<S: Strip>(work: &mut Work<S>, places: &Places, found: &mut FormPlace
     Some(())
 }
 
-// Backward: the canonical diagram of the same rule, or none of at most 31 cells has it.
-pub fn canonicalise<S: Strip>(work: &mut Work<S>, d: &Draft<S>) -> Result<Form<S>, TooMany>
+// The canonical diagram of the same rule, or none of at most 31 cells has it.
+fn canonicalise_work<S: Strip>(work: &mut Work<S>, d: &Draft<S>) -> Result<Form<S>, TooMany>
     requires within { d.now.places.cells < S.len }
     ensures { DerivesDraft S.Codes.Scale.model S.code work.old d.now → Settled S.Codes.Scale.model S.code (positions d.now) (rule_of S.Codes.Scale.model S.code work.old d.now) work.new result }
 {
@@ -161,4 +161,17 @@ pub fn canonicalise<S: Strip>(work: &mut Work<S>, d: &Draft<S>) -> Result<Form<S
         places: found,
         out: o,
     })
+}
+
+// Backward: the canonical diagram of the same rule, or none of at most 31 cells has it, in the first 512 of the strips lent.
+pub fn canonicalise<S: Strip>(work: &mut [S], d: &Draft<S>) -> Result<Form<S>, TooMany>
+    requires room { 512 ≤ length work.old }
+    requires within { d.now.places.cells < S.len }
+    ensures settled { DerivesDraft S.Codes.Scale.model S.code work.old d.now → Settled S.Codes.Scale.model S.code (positions d.now) (rule_of S.Codes.Scale.model S.code work.old d.now) work.new result }
+    ensures beyond { Beyond S.code work.old work.new }
+{
+    let work = over(work);
+    let settled = canonicalise_work(work, d);
+    still_whole(work);
+    settled
 }

@@ -1,14 +1,14 @@
 // Forward: each place's row is split at its position and written over a table of rows, so that what is left is reached
 // from the rule.
-ghost use Rattle.std.specs.Prelude.{◌≡◌, ℕ, ◌+◌, ◌<◌, ◌≤◌};
+ghost use Rattle.std.specs.Prelude.{◌≡◌, ℕ, ◌+◌, ◌<◌, ◌≤◌, length};
 ghost use Rattle.strip.specs.Row.{zeros};
 ghost use Rattle.elimination.specs.Rows.{Rows, Outside};
-ghost use Rattle.settling.specs.Draft.{Bounded, Tables};
+ghost use Rattle.settling.specs.Draft.{Bounded, Beyond, Tables};
 ghost use Rattle.settling.specs.Settling.{Sound, FormedDraft, TrimmedDraft};
 ghost use Rattle.settling.specs.Trimming.{Rest, Gain, Advances};
 
 use super::draft::{DIF, Draft, OFF, Places, ROW};
-use super::work::{Work, absorb, gather, pivot, row, store, wipe};
+use super::work::{Work, absorb, gather, over, pivot, row, still_whole, store, wipe};
 use elimination::rows::tail;
 use strip::Strip;
 
@@ -101,8 +101,8 @@ fn steady_table<S: Strip>(work: &mut Work<S>, m: usize)
     store(work, ROW, m, unit);
 }
 
-// Forward: the same rule, by places that are reached from it.
-pub fn trim<S: Strip>(work: &mut Work<S>, d: &mut Draft<S>)
+// The same rule, by places that are reached from it.
+fn trim_work<S: Strip>(work: &mut Work<S>, d: &mut Draft<S>)
     requires sound { Sound S.code S.len work.old d.old }
     ensures places { d.new.places ≡ d.old.places }
     ensures trimmed { FormedDraft S.Codes.Scale.model S.code work.old d.old → TrimmedDraft S.Codes.Scale.model S.code work.old d.old work.new d.new }
@@ -111,4 +111,17 @@ pub fn trim<S: Strip>(work: &mut Work<S>, d: &mut Draft<S>)
     steady_table(work, m);
     d.out = absorb(work, ROW, m + 1, d.out);
     trim_places(work, &d.places);
+}
+
+// Forward: the same rule, by places that are reached from it, in the first 512 of the strips lent.
+pub fn trim<S: Strip>(work: &mut [S], d: &mut Draft<S>)
+    requires room { 512 ≤ length work.old }
+    requires sound { Sound S.code S.len work.old d.old }
+    ensures places { d.new.places ≡ d.old.places }
+    ensures trimmed { FormedDraft S.Codes.Scale.model S.code work.old d.old → TrimmedDraft S.Codes.Scale.model S.code work.old d.old work.new d.new }
+    ensures beyond { Beyond S.code work.old work.new }
+{
+    let work = over(work);
+    trim_work(work, d);
+    still_whole(work);
 }

@@ -21,6 +21,12 @@ pub fn over<S: Strip>(strips: &mut [S]) -> &mut Work<S>
     strips.first_chunk_mut::<512>().unwrap()
 }
 
+// Working memory has as many strips as before, whatever was written to it.
+// kept: the type says so, but a proof that has passed an array to a call knows its length again only by a clause like this one.
+pub(crate) fn still_whole<S: Strip>(work: &Work<S>)
+    ensures { length work.now ≡ 512 }
+{}
+
 // The row at i of the area from `base` on.
 // kept: an area is the number of its first strip, here and below, since areas are parts of one memory, and a step reads one while it writes another.
 #[tactic(auto, using(elimination::proofs::Grids::rows_from))]

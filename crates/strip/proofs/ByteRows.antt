@@ -16,6 +16,9 @@ code_is q b h = search rules
 code_of_zero : (q : ℕ) → byte_code q 0 ≡ 0
 code_of_zero q = search rules
 
+pub code_below : (q b : ℕ) → 0 < q → byte_code q b < q
+code_below q b some = search rules
+
 pub inside : (q : ℕ) (xs : List ℕ) (p : ℕ) → p < 128 → byte_row q xs p ≡ byte_code q (get_or xs p 0)
 inside q xs p h = search rules
 
@@ -30,6 +33,9 @@ pub blank_row : (q : ℕ) → byte_row q (replicate 128 0) ≡ zeros
 blank_row q =
     let blank : List ℕ = replicate 128 0 in
     fun_ext (λ p. ⊎_elim (λ h. inside q blank p h ∙ (ap (byte_code q) (get_or-replicate 128 p 0 0 h) ∙ code_of_zero q)) (past q blank p) (cases_lt p 128))
+
+pub blank_codes : (q : ℕ) (codes : List ℕ) → codes ≡ replicate 128 0 → byte_row q codes ≡ zeros
+blank_codes q codes e = ap (byte_row q) e ∙ blank_row q
 
 -- what stands at the places of equal rows
 pub same_codes : (q : ℕ) (xs ys : List ℕ) → byte_row q xs ≡ byte_row q ys → (p : ℕ) → p < 128 → byte_code q (get_or xs p 0) ≡ byte_code q (get_or ys p 0)

@@ -28,12 +28,14 @@ impl ScanOrder {
         }
         let mut inputs = [0; 24];
         inputs[..n].copy_from_slice(list);
+        let mut seen = [false; 24];
         let mut positions = [0; 24];
         for (k, input) in list.iter().enumerate() {
             let v = *input as usize;
-            if v >= n || list[..k].contains(input) {
+            if v >= n || seen[v] {
                 return Err(Refusal::InputList);
             }
+            seen[v] = true;
             positions[v] = k as u8;
         }
         *self = ScanOrder {

@@ -12,11 +12,9 @@ use patch::{Patch, Refusal, examine};
 use scale::Scale;
 use settling::draft::Draft;
 use settling::settle;
-use settling::work::{Work, over};
 use strip::Strip;
 
 // Whether there are strips enough to work in.
-// kept: apart from `over`, which follows it three times: a function that did both would lend an array, and each caller shows that it fits either way.
 fn check_work<S>(work: &[S]) -> Result<(), Refusal>
     ensures enough { IsOk result ↔ (512 ≤ length work.now) }
     ensures refused { IfErr result (λ e. e ≡ FewWorkingStrips) }
@@ -59,15 +57,21 @@ impl<'a, S: Strip> Rack<'a, S> {
 
     // Settles a draft and keeps it in slot `to`, or refuses it for its cells.
     // kept: a slot's part of the strips is cut here, in `form` and in `weigh`: a function that lent it would need a clause on what comes back, which is longer than the cut.
-    fn keep(&mut self, to: usize, work: &mut Work<S>, draft: &mut Draft<S>) -> Result<(), Refusal>
+    fn keep(&mut self, to: usize, work: &mut [S], draft: &mut Draft<S>) -> Result<(), Refusal>
         requires slot { to < 16 }
+        requires room { 512 ≤ length work.old }
         requires strips { 512 ≤ length self.old.strips.now }
         requires sound { Sound S.code S.len work.old draft.old }
     {
         let form = settle(work, draft).map_err(|_| Refusal::TooManyCells)?;
         let strips = &mut *self.strips;
         let first = SLOT_STRIPS * to;
-        keep_form(&mut strips[first..first + SLOT_STRIPS], work, &form);
+        keep_form(
+            &mut strips[first..first + SLOT_STRIPS],
+            work,
+            &form.out,
+            form.places.cells,
+        );
         self.desk.slots[to].describe(&form, &self.desk.order);
         Ok(())
     }
@@ -76,7 +80,6 @@ impl<'a, S: Strip> Rack<'a, S> {
     pub fn load(&mut self, slot: usize, bytes: &[u8], work: &mut [S]) -> Result<(), Refusal> {
         self.check_slot(slot)?;
         check_work(work)?;
-        let work = over(work);
         let setup = setup::<S>(&self.desk.order);
         examine(bytes, &setup)?;
         let patch = Patch::admit(bytes, &setup);
@@ -90,7 +93,6 @@ impl<'a, S: Strip> Rack<'a, S> {
         let x = self.form(a)?;
         let y = self.form(b)?;
         check_work(work)?;
-        let work = over(work);
         let mut draft = draft_sum(work, &self.desk.order, &x, 1, &y);
         self.keep(to, work, &mut draft)
     }
@@ -129,7 +131,6 @@ impl<'a, S: Strip> Rack<'a, S> {
             return Err(Refusal::TieRange);
         }
         check_work(work)?;
-        let work = over(work);
         let mut draft = draft_tied(work, &self.desk.order, &form, input, v == 1);
         self.keep(to, work, &mut draft)
     }

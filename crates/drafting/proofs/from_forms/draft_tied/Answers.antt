@@ -1,23 +1,18 @@
-use Rattle.std.proofs.Common.{ℕ, ◌<◌, [], ◌++◌, length, map, subst, arith}
-use Rattle.patch.specs.Faults.{position}
-use Rattle.patch.specs.Orders.{listed}
-use Rattle.drafting.specs.Plan.{PlacedBy}
-use Rattle.drafting.proofs.Positions.{first_at}
-use Rattle.drafting.proofs.Tied.{tied_means}
+use Rattle.std.proofs.Common.{drop, ◌++◌}
+use Rattle.settling.proofs.Fronts.{Front, front_put, beyond_put, sound_front}
+use Rattle.drafting.proofs.Fronts.{drafts_front}
 use Rattle.drafting.proofs.from_forms.draft_tied.Goals as goal
 
-pub returns-clause-means : goal.returns-clause-means
-returns-clause-means g c =
+pub returns : goal.returns
+returns g c =
+    let s = g.S.Strip in
     let M = g.S.Codes.Scale.model in
-    let code = g.S.Strip.code in
-    let s = c.args.order.now in
-    let form = c.args.form.now in
-    let order = listed s in
-    let ps = map (position order) (form.inputs.now ++ []) in
-    let plan = c.plan_forms-plan.result in
-    let d : PlacedBy ps (length form.inputs.now) (length order) plan.places plan.place =
-    subst (λ (k : ℕ). PlacedBy ps k (length order) plan.places plan.place) (omega arith) c.plan_forms-plan.ensures in
-    let short : plan.places.cells < g.S.Strip.len = omega (arith, d.few, form.few, g.met.S.Strip.long) in
-    λ known fP.
-    tied_means M code s ps plan form c.part-part.result c.part-part.ensures d g.S.Strip.len short (first_at order form.inputs.now []) c.args.input c.args.on known _ _ c.clear_rows.ensures.blank
-    c.copy_cells.ensures.dif c.copy_cells.ensures.off fP _ (c.moved_row-out.ensures.row (omega (arith, c.part-part.ensures.steady)))
+    let v = c.args.work.now in
+    let w = c.draft_tied_work-draft.new.work in
+    let d = c.draft_tied_work-draft.result in
+    let after : Front s.code w (w ++ drop 512 v) = front_put s.code v w c.requires.room c.still_whole.ensures in
+    record {
+      sound = sound_front M s.code w _ after s.len d c.draft_tied_work-draft.ensures.sound;
+      means = λ known fP. drafts_front s.code w _ after M d _ _ (c.draft_tied_work-draft.ensures.means known fP);
+      beyond = beyond_put s.code v w c.requires.room c.still_whole.ensures;
+    }

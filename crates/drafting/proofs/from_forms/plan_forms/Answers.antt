@@ -15,5 +15,5 @@ returns c =
     let n : ℕ = length (listed c.args.order.now) in
     let plan = c.place_cells.result in
     subst (λ (l : List ℕ). PlacedBy l k n plan.places plan.place)
-    (listed_both (listed c.args.order.now) first second ps qs (omega (arith, c.split_at_mut-of_first.ensures.front_len)) (omega (arith, c.split_at_mut-of_first.ensures.back_len)) c.form_positions.ensures c.form_positions-2.ensures) (
+    (listed_both (listed c.args.order.now) first second ps qs (omega (arith, c.split_at_mut-of_first.ensures.front_len)) (omega (arith, c.split_at_mut-of_first.ensures.back_len)) c.form_positions.ensures.listed c.form_positions-2.ensures.listed) (
     first_placed (ps ++ qs) k _ n _ _ _ (omega (arith, length-append ps qs, c.split_at_mut-of_first.ensures.front_len, c.split_at_mut-of_first.ensures.back_len)) c.count.ensures c.place_cells.ensures)

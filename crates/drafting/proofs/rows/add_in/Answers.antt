@@ -1,4 +1,4 @@
-use Rattle.std.proofs.Common.{◌≡◌, ◌+◌, sym, ◌∙◌, arith}
+use Rattle.std.proofs.Common.{◌≡◌, ◌∙◌, arith}
 use Rattle.elimination.specs.Rows.{Rows}
 use Rattle.elimination.proofs.Grids.{rows_from, stored, stored_outside}
 use Rattle.drafting.proofs.rows.add_in.Goals as goal

@@ -1,45 +1,35 @@
-use Rattle.std.proofs.Common.{◌≡◌, ◌+◌, length, sym, ◌∙◌}
-use Rattle.std.proofs.lemmas.Iterator.{YieldsList-from_slice}
-use Rattle.std.proofs.lemmas.Iterator.Adapters.{YieldsList-from_skip}
-use Rattle.std.proofs.lemmas.Iterator.Consumers.{YieldsList-from_enumerate, YieldsList-turn, YieldsList-end}
-use Rattle.std.proofs.lemmas.List.{length_push}
+use Rattle.std.proofs.Common.{◌≡◌, ◌+◌, ◌-◌, length, refl, sym, ◌∙◌, arith}
 use Rattle.elimination.specs.Rows.{rows_in}
-use Rattle.elimination.proofs.Gathering.{many, numbered, none_added, row_added, row_skipped}
-use Rattle.elimination.proofs.rows.gather.Given as given
+use Rattle.elimination.proofs.Gathering.{none_added, row_added, row_skipped, part_row}
 use Rattle.elimination.proofs.rows.gather.Goals as goal
-use Rattle.elimination.proofs.rows.gather.Goals.{In-Some}
+use Rattle.elimination.proofs.rows.gather.Goals.{then-c-ne0, else-c-ne0}
 
-pub loop-t-init : goal.loop-t-init
-loop-t-init g c = none_added g.S.Codes.Scale.model (g.S.Strip.code c.args.r.now) (rows_in g.S.Strip.code c.args.rows.now) c.args.from (g.S.Strip.code c.args.sum.now)
+pub loop-i-init : goal.loop-i-init
+loop-i-init g c = none_added g.S.Codes.Scale.model (g.S.Strip.code c.args.r.now) (rows_in g.S.Strip.code c.args.rows.now) c.args.from (g.S.Strip.code c.args.sum.now)
 
--- the number and the row of this turn
-here : (g : given.Over) (c : In-Some g)
-    → (c.in-Some.t ≡ c.args.from + length c.loop-t.yielded) × (rows_in g.S.Strip.code c.args.rows.now (c.args.from + length c.loop-t.yielded) ≡ g.S.Strip.code c.in-Some.row.now)
-here g c =
-    let road = YieldsList-from_skip c.args.from (YieldsList-from_enumerate (YieldsList-from_slice c.args.rows.now (cc)) (cc)) (cc) in
-    let turn = YieldsList-turn road c.loop-t.yielded _ c.loop-t.yielded_by _ _ (c.in-Some.t, c.in-Some.row) c.in-Some.is c.next.ensures.steps in
-    numbered g.S.Strip.code c.args.rows.now c.args.from (length c.loop-t.yielded) c.in-Some.t c.in-Some.row.now turn.0 turn.1
-
-pub loop-t-preserved-then-c-ne0 : goal.loop-t-preserved-then-c-ne0
-loop-t-preserved-then-c-ne0 g c =
+pub loop-i-preserved : goal.loop-i-preserved
+loop-i-preserved g c =
     let s = g.S.Strip in
-    let h = here g (goal.at.loop-t-preserved-then-c-ne0 g c).In-Some in
-    rw (length_push c.loop-t.yielded (c.in-Some.t, c.in-Some.row))
-    (row_added g.S.Codes.Scale.model (s.code c.args.r.now) (rows_in s.code c.args.rows.now) c.args.from (length c.loop-t.yielded) c.in-Some.t h.0 (s.code c.args.sum.now) (s.code c.loop-t.sum)
-    c.loop-t.invariant (s.code c.in-Some.row.now) _ c.ask-c.result c.ask-c.ensures h.1 (g.met.S.Strip.coded c.loop-t.sum) c.add_times.ensures)
-
-pub loop-t-preserved : goal.loop-t-preserved
-loop-t-preserved g c =
-    let s = g.S.Strip in
-    let h = here g (goal.at.loop-t-preserved g c).In-Some in
-    rw (length_push c.loop-t.yielded (c.in-Some.t, c.in-Some.row))
-    (row_skipped g.S.Codes.Scale.model (s.code c.args.r.now) (rows_in s.code c.args.rows.now) c.args.from (length c.loop-t.yielded) c.in-Some.t h.0 (s.code c.args.sum.now) (s.code c.loop-t.sum)
-    c.loop-t.invariant (sym c.ask-c.ensures ∙ c.if-c-ne0.false))
-
-pub returns : goal.returns
-returns g c =
+    let M = g.S.Codes.Scale.model in
     let rows = c.args.rows.now in
     let from = c.args.from in
-    let road = YieldsList-from_skip from (YieldsList-from_enumerate (YieldsList-from_slice rows (cc)) (cc)) (cc) in
-    let end = YieldsList-end road c.loop-t.yielded _ c.loop-t.yielded_by _ _ c.in-None.is c.next.ensures.steps in
-    rw (end.1 ∙ many rows from) at c.loop-t.invariant
+    let i = c.loop-i.i in
+    let part = c.in-Some.ensures.lookup.0 in
+    let row : rows_in s.code rows (from + i) ≡ s.code c.index-rest-i.result = part_row s.code rows c.in-Some.rest.now from i _ part.2 part.3 c.loop-i-test.true c.index-rest-i.is in
+    elim c.if-c-ne0.branch [
+      | then-c-ne0 w ↦ rw w.sum-is (row_added M (s.code c.args.r.now) (rows_in s.code rows) from i (from + i) refl (s.code c.args.sum.now) (s.code c.loop-i.sum) c.loop-i.invariant
+          (s.code c.index-rest-i.result) _ c.ask-c.result c.ask-c.ensures row (g.met.S.Strip.coded c.loop-i.sum) w.add_times.ensures)
+      | else-c-ne0 w ↦ rw w.sum-is (row_skipped M (s.code c.args.r.now) (rows_in s.code rows) from i (from + i) refl (s.code c.args.sum.now) (s.code c.loop-i.sum) c.loop-i.invariant
+          (sym c.ask-c.ensures ∙ w.if-c-ne0.false))
+    ]
+
+pub returns-after-loop-i : goal.returns-after-loop-i
+returns-after-loop-i g c =
+    let part = c.in-Some.ensures.lookup.0 in
+    let all : c.loop-i.i ≡ length c.args.rows.now - c.args.from = omega (arith, part.3) in
+    rw all at c.loop-i.invariant
+
+pub returns-in_default : goal.returns-in_default
+returns-in_default g c =
+    let none : length c.args.rows.now - c.args.from ≡ 0 = omega (arith, c.in_default.ensures.lookup) in
+    rw none (none_added g.S.Codes.Scale.model (g.S.Strip.code c.args.r.now) (rows_in g.S.Strip.code c.args.rows.now) c.args.from (g.S.Strip.code c.args.sum.now))

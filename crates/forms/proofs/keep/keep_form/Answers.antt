@@ -1,14 +1,20 @@
-use Rattle.std.proofs.Common.{◌≡◌, ◌+◌, ◌-◌, refl, arith}
-use Rattle.forms.specs.Keeping.{silent_rows}
-use Rattle.forms.proofs.Filling.{outlet_set, cells_copied}
+use Rattle.std.proofs.Common.{◌≡◌, ℕ, min, ◌+◌, ◌-◌, arith}
+use Rattle.elimination.specs.Rows.{Rows}
+use Rattle.forms.specs.Keeping.{form_rows}
+use Rattle.forms.proofs.Filling.{same_rows, most_rows, form_kept}
 use Rattle.forms.proofs.keep.keep_form.Goals as goal
 
 pub returns : goal.returns
 returns g c =
     let code = g.S.Strip.code in
-    let slot = c.args.slot.now in
-    let form = c.args.form.now in
-    let cells = form.places.cells in
-    let e : cells + 1 - 1 ≡ cells = omega arith in
-    rw e (cells_copied code slot _ c.args.work.now c.copy_from_slice.new.self (code form.out) cells form.places.few c.requires.room c.requires.slot c.copy_from_slice.ensures.after
-    (outlet_set code slot c.keep_silent.new.slot 0 silent_rows form.out (code form.out) (omega (arith, c.requires.slot)) c.keep_silent.ensures refl))
+    let o = c.args.outlet.now in
+    let work = c.args.work.now in
+    let cells : ℕ = c.args.cells in
+    let most : ℕ = c.min-most.result in
+    let m : most ≡ min cells 31 = omega (arith, c.min-most.ensures) in
+    let e : most + 1 - 1 ≡ most = omega arith in
+    rw e (
+    same_rows code c.args.slot.now _ 0 (form_rows (code o) most (Rows code work 288)) (form_rows (code o) cells (Rows code work 288)) (
+    λ k l. rw m (most_rows (code o) cells (Rows code work 288) k l)) (
+    form_kept code c.args.slot.now work c.copy_from_slice.new.self o most (omega arith) c.requires.room c.requires.slot c.copy_from_slice.ensures.after c.wipe.new.table (
+    rw e at c.wipe.auto.table) c.wipe.ensures.blank))

@@ -1,5 +1,6 @@
-use Rattle.strip.proofs.ByteRows.{blank_row}
+use Rattle.std.proofs.Common.{rules}
+use Rattle.strip.proofs.ByteRows.{blank_codes}
 use Rattle.strip.proofs.bytes.ByteStripStrip.blank.Goals as goal
 
 pub returns : goal.returns
-returns g c = rw c.from_bytes.ensures (blank_row g.C.Scale.model.q)
+returns g c = blank_codes g.C.Scale.model.q c.from_bytes.result.codes (search rules)
