@@ -1,4 +1,4 @@
-use Rattle.std.proofs.Common.{◌≡◌, ◌+◌, ◌-◌, length, refl, sym, ◌∙◌, arith}
+use Rattle.std.proofs.Common.{rules, ◌≡◌, ◌+◌, ◌-◌, length, refl, sym, ◌∙◌, arith}
 use Rattle.elimination.specs.Rows.{rows_in}
 use Rattle.elimination.proofs.Gathering.{none_added, row_added, row_skipped, part_row}
 use Rattle.elimination.proofs.rows.gather.Goals as goal
@@ -15,10 +15,10 @@ loop-i-preserved g c =
     let from = c.args.from in
     let i = c.loop-i.i in
     let part = c.in-Some.ensures.lookup.0 in
-    let row : rows_in s.code rows (from + i) ≡ s.code c.index-rest-i.result = part_row s.code rows c.in-Some.rest.now from i _ part.2 part.3 c.loop-i-test.true c.index-rest-i.is in
+    let more = row_added M (s.code c.args.r.now) (rows_in s.code rows) from i (from + i) refl (s.code c.args.sum.now) (s.code c.loop-i.sum) c.loop-i.invariant in
     elim c.if-c-ne0.branch [
-      | then-c-ne0 w ↦ rw w.sum-is (row_added M (s.code c.args.r.now) (rows_in s.code rows) from i (from + i) refl (s.code c.args.sum.now) (s.code c.loop-i.sum) c.loop-i.invariant
-          (s.code c.index-rest-i.result) _ c.ask-c.result c.ask-c.ensures row (g.met.S.Strip.coded c.loop-i.sum) w.add_times.ensures)
+      | then-c-ne0 w ↦ rw w.sum-is (more _ _ c.ask-c.result c.ask-c.ensures (part_row s.code rows c.in-Some.rest.now from i _ part.2 part.3 c.loop-i-test.true (search rules))
+          (g.met.S.Strip.coded c.loop-i.sum) w.add_times.ensures)
       | else-c-ne0 w ↦ rw w.sum-is (row_skipped M (s.code c.args.r.now) (rows_in s.code rows) from i (from + i) refl (s.code c.args.sum.now) (s.code c.loop-i.sum) c.loop-i.invariant
           (sym c.ask-c.ensures ∙ w.if-c-ne0.false))
     ]
