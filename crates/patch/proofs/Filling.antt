@@ -65,10 +65,7 @@ module _ (list : List ℕ) (k : ℕ) (seen : List Bool) (pos : List ℕ) (f : Fi
           (λ p. inr (omega (arith, p.0), ap (λ m. get_or list m 0) e ∙ p.1))
           (f.open' v l)
 
-  -- the list is not one that has each once: an input past the end, and one that was seen
-  pub not_high : length list ≤ get_or list k 0 → EachOnce list → ⊥
-  not_high high once = omega (arith, once.0 k here)
-
+  -- the list is not one that has each once: an input that was seen
   pub not_twice : get_or list k 0 < length list → get_or seen (get_or list k 0) false ≡ true → EachOnce list → ⊥
   not_twice low used once =
       ⊎_elim
@@ -76,23 +73,28 @@ module _ (list : List ℕ) (k : ℕ) (seen : List Bool) (pos : List ℕ) (f : Fi
       (λ p. let e : get_or pos (get_or list k 0) 0 ≡ k = once.1 _ k (omega (arith, p.0)) here p.1 in omega (arith, p.0))
       (f.open' (get_or list k 0) (omega arith))
 
+-- and so with an input past the end
+pub not_high : (list : List ℕ) (k : ℕ) → k < length list → length list ≤ get_or list k 0 → EachOnce list → ⊥
+not_high list k here high once = omega (arith, once.0 k here)
+
 -- the list put in front of a table
 pub front_long : (list table : List ℕ) → length table ≡ 24 → length list ≤ 24 → length (list ++ drop (length list) table) ≡ 24
 front_long list table l few = omega (arith, length-append list (drop (length list) table), length-drop (length list) table)
 
-module _ (list : List ℕ) (seen : List Bool) (pos : List ℕ) (f : Filled list (length list) seen pos) where
+-- the inputs of the whole list are within its length, and each has its place for its position
+module _ (list pos : List ℕ) (within : (j : ℕ) → j < length list → get_or list j 0 < length list) (placed : (j : ℕ) → j < length list → get_or pos (get_or list j 0) 0 ≡ j) where
   pub once : EachOnce list
-  once = (f.within, λ i j h l e. sym (f.placed i h) ∙ (ap (λ m. get_or pos m 0) e ∙ f.placed j l))
+  once = (within, λ i j h l e. sym (placed i h) ∙ (ap (λ m. get_or pos m 0) e ∙ placed j l))
 
   module _ (ins : List ℕ) (front : take (length list) ins ≡ list) where
     pub copied : (j : ℕ) → j < length list → get_or ins j 0 ≡ get_or list j 0
     copied j h = sym (get_or-take (length list) ins j 0 h) ∙ ap (λ xs. get_or xs j 0) front
 
     pub there : Undoes (length list) ins pos
-    there j h = let e = copied j h in (omega (arith, f.within j h), ap (λ m. get_or pos m 0) e ∙ f.placed j h)
+    there j h = let e = copied j h in (omega (arith, within j h), ap (λ m. get_or pos m 0) e ∙ placed j h)
 
     pub back : Undoes (length list) pos ins
     back v h =
         let m = pigeons (length list) (λ j. get_or list j 0) once.0 once.1 v h in
-        let e : get_or pos v 0 ≡ m.0 = ap (λ w. get_or pos w 0) (sym m.2) ∙ f.placed m.0 m.1 in
+        let e : get_or pos v 0 ≡ m.0 = ap (λ w. get_or pos w 0) (sym m.2) ∙ placed m.0 m.1 in
         (omega (arith, m.1), ap (λ w. get_or ins w 0) e ∙ (copied m.0 m.1 ∙ m.2))

@@ -18,7 +18,7 @@ returns-then-v-n c =
     let few = c.if-n-gt24.false in
     let apart : EachOnce xs → ⊥ =
     elim c.then-v-n.branch [
-      | then-v-n-via-then-v-n w ↦ not_high xs c.loop-k.k _ _ c.loop-k.invariant few c.loop-k-test.true w.if-v-n.true
+      | then-v-n-via-then-v-n w ↦ not_high xs c.loop-k.k c.loop-k-test.true w.if-v-n.true
       | then-v-n-via-else-v-n+then-seen-v w ↦ not_twice xs c.loop-k.k _ _ c.loop-k.invariant few c.loop-k-test.true w.if-v-n.false w.if-seen-v.true
     ] in (refl, mislisted (omega arith) few apart)
 
@@ -38,8 +38,8 @@ invariant_of-self c =
       some = omega arith;
       few = few;
       room = front_long xs _ refl few;
-      there = there xs _ _ f _ (take-append_seam xs _);
-      back = back xs _ _ f _ (take-append_seam xs _);
+      there = there xs _ f.within f.placed _ (take-append_seam xs _);
+      back = back xs _ f.within f.placed _ (take-append_seam xs _);
     }
     )
 
@@ -48,4 +48,4 @@ returns c =
     let xs = c.args.list.now in
     let all : c.loop-k.k ≡ length xs = omega arith in
     let f : Filled xs (length xs) c.loop-k.seen c.loop-k.positions = rw all at c.loop-k.invariant in
-    record { some = omega arith; few = c.if-n-gt24.false; once = once xs _ _ f; is = rw c.copy_from_slice.ensures.after (take-append_seam xs _) }
+    record { some = omega arith; few = c.if-n-gt24.false; once = once xs _ f.within f.placed; is = rw c.copy_from_slice.ensures.after (take-append_seam xs _) }
